@@ -1,6 +1,7 @@
 //! Cutting fields off the front of a file.
 ghost use mathlib.Core.Path.{_≡_};
 ghost use Rattle.std.specs.Results.{Cases};
+ghost use Rattle.fields.specs.Bytes.{Bytes};
 ghost use Rattle.fields.specs.Fields.{Begins, Cut};
 ghost use Rattle.fields.specs.declared.fault.FaultKind.the-variants.{PastEnd};
 use crate::fault::FaultKind;
@@ -16,7 +17,7 @@ pub struct Field<'a> {
 /// Refused exactly when the head or the body passes the end.
 pub fn cut_field(input: &[u8]) -> Result<(Field<'_>, &[u8]), FaultKind>
     ensures { λ r. ⌜ Cases r
-        (λ p. Begins (now (input .entry)) (p .0 .tag) (now (p .0 .body)) (now (p .1)))
+        (λ p. Begins (now (input .entry)) (p .0 .tag) (now (p .0 .body)) (now (p .1)) × Bytes (now (p .0 .body)))
         (λ k. (k ≡ PastEnd) × Cut (now (input .entry))) ⌝ }
 {
     let [tag, high, low, rest @ ..] = input else {
