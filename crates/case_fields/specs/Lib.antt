@@ -1,0 +1,7 @@
+pub mod Kinds
+pub mod Parts
+pub mod Entries
+pub mod Encoding
+pub mod Tests
+pub mod Cases
+pub mod Meant

@@ -1,0 +1,4 @@
+//! The records of a case: one market half hour with its nodes, lines, offers and bids.
+pub mod kind;
+pub mod part;
+pub mod record;
