@@ -5,3 +5,4 @@ pub mod Encoding
 pub mod Tests
 pub mod Cases
 pub mod Meant
+pub mod Summaries

@@ -2,3 +2,4 @@
 pub mod kind;
 pub mod part;
 pub mod record;
+mod summary;

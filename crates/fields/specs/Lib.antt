@@ -2,3 +2,5 @@ pub mod Bytes
 pub mod Fields
 pub mod Faults
 pub mod Files
+pub mod Lawful
+pub mod Certificates
