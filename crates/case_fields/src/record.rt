@@ -1,4 +1,7 @@
 //! A record of a case.
+ghost use mathlib.Core.Path.{_≡_};
+ghost use Rattle.case_fields.specs.Encoding.{tag};
+ghost use Rattle.case_fields.specs.Meant.{meant};
 use crate::part::Blocks;
 use crate::part::Points;
 
@@ -45,4 +48,21 @@ pub enum CaseRecord<'a> {
     },
     /// The regulation that the half hour requires.
     Requirement { requirement: i32, deficit_price: i32 },
+}
+
+impl CaseRecord<'_> {
+    /// The tag of its field.
+    pub fn tag(self) -> u8
+        ensures { λ r. ⌜ r ≡ tag (meant (self .entry)) ⌝ }
+    {
+        match self {
+            CaseRecord::Period { .. } => 1,
+            CaseRecord::Node { .. } => 2,
+            CaseRecord::Line { .. } => 3,
+            CaseRecord::EnergyOffer { .. } => 4,
+            CaseRecord::Bid { .. } => 5,
+            CaseRecord::RegulationOffer { .. } => 6,
+            CaseRecord::Requirement { .. } => 15,
+        }
+    }
 }
