@@ -5,4 +5,5 @@ pub mod Encoding
 pub mod Tests
 pub mod Cases
 pub mod Meant
+pub mod Parsed
 pub mod Summaries

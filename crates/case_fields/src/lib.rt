@@ -1,5 +1,6 @@
 //! The records of a case: one market half hour with its nodes, lines, offers and bids.
 pub mod kind;
+mod parse;
 pub mod part;
 pub mod record;
 mod summary;

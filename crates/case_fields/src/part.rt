@@ -1,9 +1,12 @@
 //! The blocks and points of a record, which stay in the file.
 ghost use mathlib.Core.Path.{_≡_};
-ghost use Prim.Native.Nat.{_*_};
+ghost use mathlib.Core.List.{[], _∷_};
+ghost use Prim.Native.Nat.{_+_, _<_};
+ghost use lib.Dec.{eqb};
 ghost use lib.ListN.{length};
 ghost use Rattle.std.specs.Finite.{nth};
-ghost use Rattle.case_fields.specs.Parts.{blocks-in, points-in};
+ghost use Rattle.std.specs.Options.{Cases};
+ghost use Rattle.case_fields.specs.Parts.{pairs-in, blocks-in, points-in};
 
 /// A block of an offer or a bid: up to so many kilowatts at a price.
 #[derive(Clone, Copy, PartialEq, Eq, Debug)]
@@ -33,4 +36,83 @@ pub struct Blocks<'a> {
 #[derive(Clone, Copy)]
 pub struct Points<'a> {
     pub bytes: &'a [u8],
+}
+
+/// The two numbers in front, and what follows them; none exactly when there are fewer than eight bytes.
+pub(crate) fn split_pair(bytes: &[u8]) -> Option<((i32, i32), &[u8])>
+    ensures { λ r. ⌜ Cases r
+        ((length (now (bytes .entry)) < 8) × (pairs-in (now (bytes .entry)) ≡ []))
+        (λ p. (pairs-in (now (bytes .entry)) ≡ p .0 ∷ pairs-in (now (p .1))) × (length (now (p .1)) + 8 ≡ length (now (bytes .entry)))) ⌝ }
+{
+    let [a, b, c, d, e, f, g, h, rest @ ..] = bytes else {
+        return None;
+    };
+    let first = i32::from_be_bytes([*a, *b, *c, *d]);
+    let second = i32::from_be_bytes([*e, *f, *g, *h]);
+    Some(((first, second), rest))
+}
+
+/// The pair of numbers at a place, or none past the end.
+fn pair_at(bytes: &[u8], i: usize) -> Option<(i32, i32)>
+    ensures { λ r. ⌜ r ≡ nth (pairs-in (now (bytes .entry))) i ⌝ }
+{
+    if i >= bytes.len() / 8 {
+        return None;
+    }
+    match split_pair(&bytes[8 * i..]) {
+        Some((pair, _)) => Some(pair),
+        None => None,
+    }
+}
+
+impl Blocks<'_> {
+    /// How many there are.
+    pub fn len(self) -> usize
+        ensures { λ r. ⌜ r ≡ length (blocks-in (now (self .entry .bytes))) ⌝ }
+    {
+        self.bytes.len() / 8
+    }
+
+    /// Whether there are none.
+    pub fn is_empty(self) -> bool
+        ensures { λ r. ⌜ r ≡ eqb (length (blocks-in (now (self .entry .bytes)))) 0 ⌝ }
+    {
+        self.len() == 0
+    }
+
+    /// The block at a place, or none past the end.
+    pub fn get(self, i: usize) -> Option<Block>
+        ensures { λ r. ⌜ r ≡ nth (blocks-in (now (self .entry .bytes))) i ⌝ }
+    {
+        match pair_at(self.bytes, i) {
+            Some((price, maximum)) => Some(Block { price, maximum }),
+            None => None,
+        }
+    }
+}
+
+impl Points<'_> {
+    /// How many there are.
+    pub fn len(self) -> usize
+        ensures { λ r. ⌜ r ≡ length (points-in (now (self .entry .bytes))) ⌝ }
+    {
+        self.bytes.len() / 8
+    }
+
+    /// Whether there are none.
+    pub fn is_empty(self) -> bool
+        ensures { λ r. ⌜ r ≡ eqb (length (points-in (now (self .entry .bytes)))) 0 ⌝ }
+    {
+        self.len() == 0
+    }
+
+    /// The point at a place, or none past the end.
+    pub fn get(self, i: usize) -> Option<Point>
+        ensures { λ r. ⌜ r ≡ nth (points-in (now (self .entry .bytes))) i ⌝ }
+    {
+        match pair_at(self.bytes, i) {
+            Some((flow, loss)) => Some(Point { flow, loss }),
+            None => None,
+        }
+    }
 }
