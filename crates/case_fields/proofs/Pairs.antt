@@ -1,8 +1,9 @@
 -- The pairs of numbers in the bytes of a file.
-use mathlib.Core.Path.{_≡_, refl, ap, sym, _∙_}
+use mathlib.Core.Path.{_≡_, refl, ap, sym, subst, _∙_}
 use mathlib.Core.List.{List, [], _∷_, _++_, map}
 use Prim.Native.Nat.{ℕ, zero, suc, _+_, _-_, _*_, _/_, _%_, _<_, _≤_}
 use native.Mathlib.Omega.{arith}
+use lib.Dec.{lit<}
 use lib.ListN.{length, getD, take, drop}
 use lib.IntN.{ℤ}
 use mir.Syntax.{w32}
@@ -11,7 +12,7 @@ use mir.Facts.{sfits-toZ}
 use Rattle.std.specs.declared.option.Option.the-variants.{Some, None}
 use Rattle.std.specs.Finite.{nth}
 use Rattle.std.specs.Joined.{joined}
-use Rattle.std.proofs.shelf.Lists.{take-rest, length-drop, length-map, length-append, drop-drop, append-assoc}
+use Rattle.std.proofs.shelf.Lists.{take-rest, length-drop, length-map, length-append, drop-drop, append-assoc, nil-from-length}
 use Rattle.std.proofs.shelf.Maps.{nth-past}
 use Rattle.fields.specs.Bytes.{Bytes, signed-four}
 use Rattle.fields.proofs.Numbers.{signed-four-read, front-8}
@@ -22,7 +23,7 @@ use Rattle.case_fields.specs.Parts.{pairs-in, block-of, point-of, blocks-in, p
 use Rattle.case_fields.specs.Encoding.{Blocks-written, Points-written}
 
 -- fewer than eight bytes hold no pair
-pub pairs-none : (bs : List ℕ) → length bs < 8 → pairs-in bs ≡ []
+pairs-none : (bs : List ℕ) → length bs < 8 → pairs-in bs ≡ []
 pairs-none [] h = refl
 pairs-none (a ∷ []) h = refl
 pairs-none (a ∷ b ∷ []) h = refl
@@ -33,14 +34,12 @@ pairs-none (a ∷ b ∷ c ∷ d ∷ e ∷ f ∷ []) h = refl
 pairs-none (a ∷ b ∷ c ∷ d ∷ e ∷ f ∷ g ∷ []) h = refl
 pairs-none (a ∷ b ∷ c ∷ d ∷ e ∷ f ∷ g ∷ i ∷ bs) h = absurd (omega arith)
 
--- the signed number at a place
+-- the signed number that the bytes at four places hold
 abbrev pub number-at : List ℕ → ℕ → ℕ → ℕ → ℕ → ℤ
 number-at bs i j k l = toZ w32 (getD bs i 0 * 16777216 + getD bs j 0 * 65536 + getD bs k 0 * 256 + getD bs l 0)
 
-abbrev pub first-pair : List ℕ → ℤ × ℤ
-first-pair bs = (number-at bs 0 1 2 3, number-at bs 4 5 6 7)
-
-pub pairs-more : (bs : List ℕ) → 8 ≤ length bs → pairs-in bs ≡ first-pair bs ∷ pairs-in (drop 8 bs)
+-- eight bytes or more hold a pair, and what follows them the others
+pairs-more : (bs : List ℕ) → 8 ≤ length bs → pairs-in bs ≡ (number-at bs 0 1 2 3, number-at bs 4 5 6 7) ∷ pairs-in (drop 8 bs)
 pairs-more bs h = ap pairs-in (front-8 bs h)
 
 -- the pair in front, and what is left, as a slice pattern gives them
@@ -49,23 +48,30 @@ split bs x y h e f =
     let rest = take-rest bs 8 in
     (pairs-more bs h ∙ sym (λ i. (e i, f i) ∷ pairs-in (rest i)), omega (arith, ap length rest, length-drop 8 bs))
 
+-- what holds of fewer than eight bytes, and of eight more, holds of all
+by-eights : (P : List ℕ → Type 0) → ((bs : List ℕ) → length bs < 8 → P bs) → ((a b c d e f g h : ℕ) (bs : List ℕ) → P bs → P (a ∷ b ∷ c ∷ d ∷ e ∷ f ∷ g ∷ h ∷ bs)) → (bs : List ℕ) → P bs
+by-eights P few more [] = few _ (lit< tt)
+by-eights P few more (a ∷ []) = few _ (lit< tt)
+by-eights P few more (a ∷ b ∷ []) = few _ (lit< tt)
+by-eights P few more (a ∷ b ∷ c ∷ []) = few _ (lit< tt)
+by-eights P few more (a ∷ b ∷ c ∷ d ∷ []) = few _ (lit< tt)
+by-eights P few more (a ∷ b ∷ c ∷ d ∷ e ∷ []) = few _ (lit< tt)
+by-eights P few more (a ∷ b ∷ c ∷ d ∷ e ∷ f ∷ []) = few _ (lit< tt)
+by-eights P few more (a ∷ b ∷ c ∷ d ∷ e ∷ f ∷ g ∷ []) = few _ (lit< tt)
+by-eights P few more (a ∷ b ∷ c ∷ d ∷ e ∷ f ∷ g ∷ h ∷ bs) = more a b c d e f g h bs (by-eights P few more bs)
+
 -- how many pairs there are
-pub length-pairs : (bs : List ℕ) → length (pairs-in bs) ≡ length bs / 8
-length-pairs [] = refl
-length-pairs (a ∷ []) = refl
-length-pairs (a ∷ b ∷ []) = refl
-length-pairs (a ∷ b ∷ c ∷ []) = refl
-length-pairs (a ∷ b ∷ c ∷ d ∷ []) = refl
-length-pairs (a ∷ b ∷ c ∷ d ∷ e ∷ []) = refl
-length-pairs (a ∷ b ∷ c ∷ d ∷ e ∷ f ∷ []) = refl
-length-pairs (a ∷ b ∷ c ∷ d ∷ e ∷ f ∷ g ∷ []) = refl
-length-pairs (a ∷ b ∷ c ∷ d ∷ e ∷ f ∷ g ∷ h ∷ bs) = omega (arith, length-pairs bs)
+length-pairs : (bs : List ℕ) → length (pairs-in bs) ≡ length bs / 8
+length-pairs =
+    by-eights (λ bs. length (pairs-in bs) ≡ length bs / 8)
+    (λ bs h. omega (arith, ap length (pairs-none bs h)))
+    (λ a b c d e f g h bs on. omega arith)
 
 pub length-parts : {X : Type 0} (of : ℤ × ℤ → X) (bs : List ℕ) → length bs / 8 ≡ length (map of (pairs-in bs))
 length-parts of bs = sym (length-map (pairs-in bs) of ∙ length-pairs bs)
 
 -- the pair at a place stands eight bytes on for each before it
-pub pair-at : (i : ℕ) (bs : List ℕ) → 8 * i + 8 ≤ length bs → nth (pairs-in bs) i ≡ nth (pairs-in (drop (8 * i) bs)) 0
+pair-at : (i : ℕ) (bs : List ℕ) → 8 * i + 8 ≤ length bs → nth (pairs-in bs) i ≡ nth (pairs-in (drop (8 * i) bs)) 0
 pair-at zero bs h = refl
 pair-at (suc i) bs h =
     let on : 8 + 8 * i ≡ 8 * suc i = omega arith in
@@ -103,38 +109,30 @@ module _ {X : Type 0} (of : ℤ × ℤ → X) (first second : X → ℤ) (Writte
 
   -- the bytes of the parts that bytes hold are those bytes
   back : ((p : ℤ × ℤ) → part-bytes (of p) ≡ signed-four (p .0) ++ signed-four (p .1)) → (bs : List ℕ) → Bytes bs → length bs % 8 ≡ 0 → joined part-bytes (map of (pairs-in bs)) ≡ bs
-  back same [] is long = refl
-  back same (a ∷ []) is long = absurd (omega arith)
-  back same (a ∷ b ∷ []) is long = absurd (omega arith)
-  back same (a ∷ b ∷ c ∷ []) is long = absurd (omega arith)
-  back same (a ∷ b ∷ c ∷ d ∷ []) is long = absurd (omega arith)
-  back same (a ∷ b ∷ c ∷ d ∷ e ∷ []) is long = absurd (omega arith)
-  back same (a ∷ b ∷ c ∷ d ∷ e ∷ f ∷ []) is long = absurd (omega arith)
-  back same (a ∷ b ∷ c ∷ d ∷ e ∷ f ∷ g ∷ []) is long = absurd (omega arith)
-  back same (a ∷ b ∷ c ∷ d ∷ e ∷ f ∷ g ∷ h ∷ bs) is long =
+  back same =
+      by-eights (λ bs. Bytes bs → length bs % 8 ≡ 0 → joined part-bytes (map of (pairs-in bs)) ≡ bs)
+      (λ bs few is long. let none = nil-from-length bs (omega arith) in ap (λ l. joined part-bytes (map of (pairs-in l))) none ∙ sym none)
+      (λ a b c d e f g h bs on is long.
       let one = signed-four-read a b c d (is 0) (is 1) (is 2) (is 3) in
       let two = signed-four-read e f g h (is 4) (is 5) (is 6) (is 7) in
-      let rest = back same bs (λ k. is (suc (suc (suc (suc (suc (suc (suc (suc k))))))))) (omega arith) in
-      λ i. ((same _ ∙ (λ j. one j ++ two j)) i) ++ rest i
+      let rest = on (λ k. is (suc (suc (suc (suc (suc (suc (suc (suc k))))))))) (omega arith) in
+      λ i. ((same _ ∙ (λ j. one j ++ two j)) i) ++ rest i)
 
   -- the parts that bytes hold fit
   fitting : Written [] → ((p : ℤ × ℤ) (xs : List X) → SFits w32 (p .0) → SFits w32 (p .1) → Written xs → Written (of p ∷ xs)) → (bs : List ℕ) → Bytes bs → Written (map of (pairs-in bs))
-  fitting none more [] is = none
-  fitting none more (a ∷ []) is = none
-  fitting none more (a ∷ b ∷ []) is = none
-  fitting none more (a ∷ b ∷ c ∷ []) is = none
-  fitting none more (a ∷ b ∷ c ∷ d ∷ []) is = none
-  fitting none more (a ∷ b ∷ c ∷ d ∷ e ∷ []) is = none
-  fitting none more (a ∷ b ∷ c ∷ d ∷ e ∷ f ∷ []) is = none
-  fitting none more (a ∷ b ∷ c ∷ d ∷ e ∷ f ∷ g ∷ []) is = none
-  fitting none more (a ∷ b ∷ c ∷ d ∷ e ∷ f ∷ g ∷ h ∷ bs) is =
-      more _ _ (number-fits a b c d (is 0) (is 1) (is 2) (is 3)) (number-fits e f g h (is 4) (is 5) (is 6) (is 7)) (fitting none more bs (λ k. is (suc (suc (suc (suc (suc (suc (suc (suc k))))))))))
+  fitting none more =
+      by-eights (λ bs. Bytes bs → Written (map of (pairs-in bs)))
+      (λ bs few is. subst (λ (ps : List (ℤ × ℤ)). Written (map of ps)) (sym (pairs-none bs few)) none)
+      (λ a b c d e f g h bs on is.
+      let one = number-fits a b c d (is 0) (is 1) (is 2) (is 3) in
+      let two = number-fits e f g h (is 4) (is 5) (is 6) (is 7) in
+      more _ _ one two (on (λ k. is (suc (suc (suc (suc (suc (suc (suc (suc k)))))))))))
 
-  -- parts that fit are equal where their bytes are
   part-long : (x : X) (bs : List ℕ) → length (part-bytes x ++ bs) ≡ 8 + length bs
   part-long x bs =
       omega (arith, length-append (part-bytes x) bs, length-append (signed-four (first x)) (signed-four (second x)), length-signed-four (first x), length-signed-four (second x))
 
+  -- parts that fit are equal where their bytes are
   one : ((x : X) → x ≡ of (first x, second x)) → ((x : X) (xs : List X) → Written (x ∷ xs) → SFits w32 (first x) × SFits w32 (second x) × Written xs) → (xs ys : List X) → Written xs → Written ys → joined part-bytes xs ≡ joined part-bytes ys → xs ≡ ys
   one made parts [] [] w v e = refl
   one made parts [] (y ∷ ys) w v e = absurd (omega (arith, ap length e, part-long y (joined part-bytes ys)))

@@ -20,7 +20,7 @@ tag-of Bid = 5
 tag-of RegulationOffer = 6
 tag-of Requirement = 15
 
-abbrev choose : Bool → RecordKind → Option RecordKind → Option RecordKind
+abbrev pub choose : Bool → RecordKind → Option RecordKind → Option RecordKind
 choose true k o = Some k
 choose false k o = o
 

@@ -6,4 +6,5 @@ pub mod Tests
 pub mod Cases
 pub mod Meant
 pub mod Parsed
+pub mod Read
 pub mod Summaries

@@ -2,5 +2,7 @@
 pub mod kind;
 mod parse;
 pub mod part;
+mod range;
+pub mod read;
 pub mod record;
 mod summary;

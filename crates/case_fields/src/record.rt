@@ -9,7 +9,10 @@ use crate::part::Points;
 #[derive(Clone, Copy)]
 pub enum CaseRecord<'a> {
     /// The half hour, and by how much a widened row may be missed.
-    Period { number: u32, allowance: i32 },
+    Period {
+        number: u32,
+        allowance: i32,
+    },
     /// A node of the network.
     Node {
         deficit_maximum: i32,
@@ -37,7 +40,10 @@ pub enum CaseRecord<'a> {
         blocks: Blocks<'a>,
     },
     /// A bid to buy at a node.
-    Bid { node: u16, blocks: Blocks<'a> },
+    Bid {
+        node: u16,
+        blocks: Blocks<'a>,
+    },
     /// An offer to regulate with the unit of an energy offer.
     RegulationOffer {
         offer: u16,
@@ -47,7 +53,10 @@ pub enum CaseRecord<'a> {
         blocks: Blocks<'a>,
     },
     /// The regulation that the half hour requires.
-    Requirement { requirement: i32, deficit_price: i32 },
+    Requirement {
+        requirement: i32,
+        deficit_price: i32,
+    },
 }
 
 impl CaseRecord<'_> {

@@ -11,10 +11,15 @@ use Rattle.std.proofs.shelf.Lists.{append-nil, append-assoc, joined-more}
 use Rattle.std.proofs.shelf.Tests.{both-ways, cases-order}
 use Rattle.fields.specs.declared.fault.FaultKind.{FaultKind}
 use Rattle.fields.specs.declared.fault.FaultKind.the-variants.{PastEnd, UnknownTag, TagOrder, BadLength, OutOfRange, BadReference, TermOrder}
+use Rattle.std.specs.Results.{Cases}
+use Rattle.std.specs.declared.result.Result.{Result}
+use Rattle.std.specs.declared.result.Result.the-variants.{Ok, Err}
 use Rattle.fields.specs.declared.fault.FieldFault.{FieldFault}
+use Rattle.fields.specs.declared.fault.ReadError.{ReadError}
+use Rattle.fields.specs.declared.fault.ReadError.the-variants.{Memory, Field}
 use Rattle.fields.specs.Faults.{Checks, rule, First}
 use Rattle.fields.specs.Fields.{Begins, Cut, In-field}
-use Rattle.fields.specs.Files.{Format, encode, encoding, Fits, Fit, Is-file, In-record, checks, Wrong, First-fault}
+use Rattle.fields.specs.Files.{Format, encode, encoding, Fits, Fit, Is-file, In-record, checks, Wrong, First-fault, Told}
 use Rattle.fields.specs.Lawful.{Lawful}
 use Rattle.fields.proofs.Heads.{field-one, field-some, begins-one}
 
@@ -243,3 +248,15 @@ module _ {E : Type 0} (f : Format E) (lawful : Lawful f) where
       ⊎-elim (λ s. same-fault g h p q (s .0) (s .1))
       (λ s. absurd (⊎-elim (stops (p .before) (p .rest) (g .kind) (p .wrong)) (stops (q .before) (q .rest) (h .kind) (q .wrong)) s))
       (compare [] (p .before) (q .before) (p .rest) (q .rest) (p .each) (q .each) (sym (p .bytes) ∙ q .bytes))
+
+-- An answer that tells the reading or the first fault tells the only one.
+module _ {E V : Type 0} (f : Format E) (lawful : Lawful f) (bs : List ℕ) (records : V → List E) where
+  pub accepts-only : (r : Result V ReadError) → Cases r (λ v. Is-file f bs (records v)) (Told f bs) → (es : List E) → Is-file f bs es → Cases r (λ v. records v ≡ es) (λ e. e ≡ Memory)
+  accepts-only (Ok v) h es i = one-reading f lawful bs (records v) es h i
+  accepts-only (Err Memory) h es i = refl
+  accepts-only (Err (Field fault)) h es i = absurd (never-both f lawful bs es fault i h)
+
+  pub refuses-only : (r : Result V ReadError) → Cases r (λ v. Is-file f bs (records v)) (Told f bs) → (fault : FieldFault) → First-fault f bs fault → Cases r (λ v. ⊥) (λ e. (e ≡ Memory) ⊎ (e ≡ Field fault))
+  refuses-only (Ok v) h fault i = never-both f lawful bs (records v) fault h i
+  refuses-only (Err Memory) h fault i = inl refl
+  refuses-only (Err (Field g)) h fault i = inr (ap Field (one-fault f lawful bs g fault h i))

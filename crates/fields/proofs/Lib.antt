@@ -4,3 +4,4 @@ pub mod Injective
 pub mod Heads
 pub mod Laws
 pub mod Certified
+pub mod Loops

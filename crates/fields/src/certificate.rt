@@ -60,10 +60,7 @@ fn judge_certificate(kind: CertificateKind, input: &[u8]) -> Result<Certificate<
 
 /// The certificate that is all of the input: one whole field with its tag, its label and its value bytes.
 /// A fault is placed at offset 0.
-pub fn read_certificate(
-    kind: CertificateKind,
-    input: &[u8],
-) -> Result<Certificate<'_>, FieldFault>
+pub fn read_certificate(kind: CertificateKind, input: &[u8]) -> Result<Certificate<'_>, FieldFault>
     ensures reads { λ r. ⌜ Cases r
         (λ c. Is-certificate kind (now (input .entry)) (c .label) (now (c .values)))
         (λ e. (e .offset ≡ 0) × First (certificate-checks kind (now (input .entry))) (e .kind)) ⌝ }

@@ -64,7 +64,8 @@ impl Summary {
             CaseRecord::EnergyOffer { node, .. } => self.has_node(node),
             CaseRecord::Bid { node, .. } => self.has_node(node),
             CaseRecord::RegulationOffer { offer, .. } => self.is_free(offer),
-            CaseRecord::Period { .. } | CaseRecord::Node { .. } | CaseRecord::Requirement { .. } => true,
+            CaseRecord::Period { .. } | CaseRecord::Node { .. } | CaseRecord::Requirement { .. } =>
+                true,
         }
     }
 

@@ -16,14 +16,14 @@ returns c =
     let fits-end-maximum : SFits w32 (c .in-Continue-end-maximum .end-maximum) = search needs in
     let fits-violation-price : SFits w32 (c .in-Continue-violation-price .violation-price) = search needs in
     let part : Bytes (c .in-Continue-violation-price .bytes .now) =
-        after (signed-four (c .in-Continue-violation-price .violation-price)) (c .in-Continue-violation-price .bytes .now) (c .in-Continue-violation-price .ensures tt .0) (after (signed-four (c .in-Continue-end-maximum .end-maximum)) (c .in-Continue-end-maximum .rest .now) (c .in-Continue-end-maximum .ensures tt .0) (after (signed-four (c .in-Continue-end-minimum .end-minimum)) (c .in-Continue-end-minimum .rest .now) (c .in-Continue-end-minimum .ensures tt .0) (after (two (c .in-Continue-node .node)) (c .in-Continue-node .rest .now) (c .in-Continue-node .ensures tt .0) (λ k. c .typed .body k .fits)))) in
+    after (signed-four (c .in-Continue-violation-price .violation-price)) (c .in-Continue-violation-price .bytes .now) (c .in-Continue-violation-price .ensures tt .0) (after (signed-four (c .in-Continue-end-maximum .end-maximum)) (c .in-Continue-end-maximum .rest .now) (c .in-Continue-end-maximum .ensures tt .0) (after (signed-four (c .in-Continue-end-minimum .end-minimum)) (c .in-Continue-end-minimum .rest .now) (c .in-Continue-end-minimum .ensures tt .0) (after (two (c .in-Continue-node .node)) (c .in-Continue-node .rest .now) (c .in-Continue-node .ensures tt .0) (λ k. c .typed .body k .fits)))) in
     let eighths : length (c .in-Continue-violation-price .bytes .now) % 8 ≡ 0 = omega (arith, c .pre .1, c .in-Continue-node .ensures tt .1, c .in-Continue-end-minimum .ensures tt .1, c .in-Continue-end-maximum .ensures tt .1, c .in-Continue-violation-price .ensures tt .1) in
     record {
       bytes = step (two (c .in-Continue-node .node)) (c .in-Continue-node .ensures tt .0) (
-        signed-step (c .in-Continue-end-minimum .end-minimum) fits-end-minimum (c .in-Continue-end-minimum .ensures tt .0) (
-        signed-step (c .in-Continue-end-maximum .end-maximum) fits-end-maximum (c .in-Continue-end-maximum .ensures tt .0) (
-        signed-step (c .in-Continue-violation-price .violation-price) fits-violation-price (c .in-Continue-violation-price .ensures tt .0) (
-        (sym (blocks-back (c .in-Continue-violation-price .bytes .now) part eighths))))));
+          signed-step (c .in-Continue-end-minimum .end-minimum) fits-end-minimum (c .in-Continue-end-minimum .ensures tt .0) (
+          signed-step (c .in-Continue-end-maximum .end-maximum) fits-end-maximum (c .in-Continue-end-maximum .ensures tt .0) (
+          signed-step (c .in-Continue-violation-price .violation-price) fits-violation-price (c .in-Continue-violation-price .ensures tt .0) (
+          (sym (blocks-back (c .in-Continue-violation-price .bytes .now) part eighths))))));
       tagged = refl;
       written = (search needs, search needs, search needs, search needs, blocks-written (c .in-Continue-violation-price .bytes .now) part);
     }

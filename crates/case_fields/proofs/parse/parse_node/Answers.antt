@@ -14,10 +14,10 @@ returns c =
     let fits-excess-price : SFits w32 (c .in-Continue-excess-price .excess-price) = search needs in
     record {
       bytes = signed-step (c .in-Continue-deficit-maximum .deficit-maximum) fits-deficit-maximum (c .in-Continue-deficit-maximum .ensures tt .0) (
-        signed-step (c .in-Continue-deficit-price .deficit-price) fits-deficit-price (c .in-Continue-deficit-price .ensures tt .0) (
-        signed-step (c .in-Continue-excess-maximum .excess-maximum) fits-excess-maximum (c .in-Continue-excess-maximum .ensures tt .0) (
-        signed-step (c .in-Continue-excess-price .excess-price) fits-excess-price (c .in-Continue-excess-price .ensures tt .0) (
-        nil-from-length (c .in-Continue-excess-price .field-0-1 .now) (search needs)))));
+          signed-step (c .in-Continue-deficit-price .deficit-price) fits-deficit-price (c .in-Continue-deficit-price .ensures tt .0) (
+          signed-step (c .in-Continue-excess-maximum .excess-maximum) fits-excess-maximum (c .in-Continue-excess-maximum .ensures tt .0) (
+          signed-step (c .in-Continue-excess-price .excess-price) fits-excess-price (c .in-Continue-excess-price .ensures tt .0) (
+          nil-from-length (c .in-Continue-excess-price .field-0-1 .now) (search needs)))));
       tagged = refl;
       written = (search needs, search needs, search needs, search needs);
     }

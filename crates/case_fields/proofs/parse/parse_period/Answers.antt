@@ -12,8 +12,8 @@ returns c =
     let fits-allowance : SFits w32 (c .in-Continue-allowance .allowance) = search needs in
     record {
       bytes = step (four (c .in-Continue-number .number)) (c .in-Continue-number .ensures tt .0) (
-        signed-step (c .in-Continue-allowance .allowance) fits-allowance (c .in-Continue-allowance .ensures tt .0) (
-        nil-from-length (c .in-Continue-allowance .field-0-1 .now) (search needs)));
+          signed-step (c .in-Continue-allowance .allowance) fits-allowance (c .in-Continue-allowance .ensures tt .0) (
+          nil-from-length (c .in-Continue-allowance .field-0-1 .now) (search needs)));
       tagged = refl;
       written = (search needs, search needs);
     }

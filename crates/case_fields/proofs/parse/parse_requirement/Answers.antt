@@ -12,8 +12,8 @@ returns c =
     let fits-deficit-price : SFits w32 (c .in-Continue-deficit-price .deficit-price) = search needs in
     record {
       bytes = signed-step (c .in-Continue-requirement .requirement) fits-requirement (c .in-Continue-requirement .ensures tt .0) (
-        signed-step (c .in-Continue-deficit-price .deficit-price) fits-deficit-price (c .in-Continue-deficit-price .ensures tt .0) (
-        nil-from-length (c .in-Continue-deficit-price .field-0-1 .now) (search needs)));
+          signed-step (c .in-Continue-deficit-price .deficit-price) fits-deficit-price (c .in-Continue-deficit-price .ensures tt .0) (
+          nil-from-length (c .in-Continue-deficit-price .field-0-1 .now) (search needs)));
       tagged = refl;
       written = (search needs, search needs);
     }
