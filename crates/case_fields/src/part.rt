@@ -20,7 +20,7 @@ pub struct Block {
 /// A point of a line's loss curve.
 #[derive(Clone, Copy, PartialEq, Eq, Debug)]
 pub struct Point {
-    /// Kilowatts at the start of the line.
+    /// Kilowatts of flow.
     pub flow: i32,
     /// Kilowatts lost at that flow.
     pub loss: i32,

@@ -1,5 +1,5 @@
 //! What the records read so far say for those that follow.
-/// What is kept of the records read so far, so that each new record is judged in constant time.
+/// What is kept of the records read so far, so that tag and references of a new record are judged in constant time.
 #[derive(Drop)]
 pub struct Summary {
     /// The tag of the last record, nought before the first.
