@@ -1,5 +1,5 @@
 //! The records of a case: one market half hour with its nodes, lines, offers and bids.
-pub mod kind;
+mod kind;
 mod parse;
 pub mod part;
 mod range;

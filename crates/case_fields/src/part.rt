@@ -2,7 +2,6 @@
 ghost use mathlib.Core.Path.{_≡_};
 ghost use mathlib.Core.List.{[], _∷_};
 ghost use Prim.Native.Nat.{_+_, _<_};
-ghost use lib.Dec.{eqb};
 ghost use lib.ListN.{length};
 ghost use Rattle.std.specs.Finite.{nth};
 ghost use Rattle.std.specs.Options.{Cases};
@@ -73,13 +72,6 @@ impl Blocks<'_> {
         self.bytes.len() / 8
     }
 
-    /// Whether there are none.
-    pub fn is_empty(self) -> bool
-        ensures { λ r. ⌜ r ≡ eqb (length (blocks-in (now (self .entry .bytes)))) 0 ⌝ }
-    {
-        self.len() == 0
-    }
-
     /// The block at a place, or none past the end.
     pub fn get(self, i: usize) -> Option<Block>
         ensures { λ r. ⌜ r ≡ nth (blocks-in (now (self .entry .bytes))) i ⌝ }
@@ -97,13 +89,6 @@ impl Points<'_> {
         ensures { λ r. ⌜ r ≡ length (points-in (now (self .entry .bytes))) ⌝ }
     {
         self.bytes.len() / 8
-    }
-
-    /// Whether there are none.
-    pub fn is_empty(self) -> bool
-        ensures { λ r. ⌜ r ≡ eqb (length (points-in (now (self .entry .bytes)))) 0 ⌝ }
-    {
-        self.len() == 0
     }
 
     /// The point at a place, or none past the end.

@@ -148,7 +148,7 @@ fn offer_in_range(minimum: i32, maximum: i32, violation_price: i32, blocks: Bloc
 
 impl CaseRecord<'_> {
     /// Whether its numbers are in range and in order.
-    pub fn is_in_range(self) -> bool
+    pub(crate) fn is_in_range(self) -> bool
         ensures { λ r. ⌜ r ≡ in-range (meant (self .entry)) ⌝ }
     {
         match self {
