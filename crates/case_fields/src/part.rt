@@ -37,6 +37,10 @@ pub struct Points<'a> {
     pub bytes: &'a [u8],
 }
 
+/// The bytes of a block, and of a point: two four-byte numbers.
+const BLOCK_BYTES: usize = 8;
+const POINT_BYTES: usize = 8;
+
 /// The two numbers in front, and what follows them; none exactly when there are fewer than eight bytes.
 pub(crate) fn split_pair(bytes: &[u8]) -> Option<((i32, i32), &[u8])>
     ensures { λ r. ⌜ Cases r
@@ -69,7 +73,7 @@ impl Blocks<'_> {
     pub fn len(self) -> usize
         ensures { λ r. ⌜ r ≡ length (blocks-in (now (self .entry .bytes))) ⌝ }
     {
-        self.bytes.len() / 8
+        self.bytes.len() / BLOCK_BYTES
     }
 
     /// The block at a place, or none past the end.
@@ -88,7 +92,7 @@ impl Points<'_> {
     pub fn len(self) -> usize
         ensures { λ r. ⌜ r ≡ length (points-in (now (self .entry .bytes))) ⌝ }
     {
-        self.bytes.len() / 8
+        self.bytes.len() / POINT_BYTES
     }
 
     /// The point at a place, or none past the end.
