@@ -39,6 +39,7 @@ pub struct Points<'a> {
 
 /// The bytes of a block, and of a point: two four-byte numbers.
 const BLOCK_BYTES: usize = 8;
+
 const POINT_BYTES: usize = 8;
 
 /// The two numbers in front, and what follows them; none exactly when there are fewer than eight bytes.

@@ -1,6 +1,5 @@
 //! A case shown to a person: what becomes of an input, and the text of each record.
 pub mod outcome;
-pub mod text;
-
 #[cfg(test)]
 mod tests;
+pub mod text;
