@@ -1,5 +1,3 @@
 //! A case shown to a person: what becomes of an input, and the text of each record.
 pub mod outcome;
-#[cfg(test)]
-mod tests;
 pub mod text;

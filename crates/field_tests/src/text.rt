@@ -1,7 +1,7 @@
 //! The text of cases and refusals.
-use crate::outcome::INPUT_LIMIT;
-use crate::outcome::outcome_of;
-use crate::text::OutcomeDisplay;
+use case_text::outcome::INPUT_LIMIT;
+use case_text::outcome::outcome_of;
+use case_text::text::OutcomeDisplay;
 use std::test::*;
 
 /// Two nodes, a line of three points from node 1 to node 0, a bid of two blocks.
@@ -141,7 +141,7 @@ const LINED: [u8; 132] = [
 ];
 
 #[test]
-fn lined_case(rt: LibcRuntime) -> Result<(), Fail> {
+fn shows_a_case_with_a_line(rt: LibcRuntime) -> Result<(), Fail> {
     let heap = rt.alloc();
     let text = outcome_of(heap, &LINED)?.to_string(heap)?;
     check_eq(
@@ -151,7 +151,7 @@ fn lined_case(rt: LibcRuntime) -> Result<(), Fail> {
 }
 
 #[test]
-fn refusals(rt: LibcRuntime) -> Result<(), Fail> {
+fn shows_refusals(rt: LibcRuntime) -> Result<(), Fail> {
     let heap = rt.alloc();
     let mut long = Vec::new(heap);
     for _ in 0..INPUT_LIMIT {
