@@ -120,7 +120,7 @@ fn parse_requirement(body: &[u8]) -> Option<CaseRecord<'_>>
 }
 
 /// The record of this kind that a body holds, which is as long as the kind takes.
-pub fn parse(kind: RecordKind, body: &[u8]) -> Option<CaseRecord<'_>>
+pub(crate) fn parse(kind: RecordKind, body: &[u8]) -> Option<CaseRecord<'_>>
     requires { ⌜ takes kind (length (now body)) ≡ true ⌝ }
     ensures { λ r. ⌜ Cases r ⊥ (Holds (now (body .entry)) (tag-of kind)) ⌝ }
 {

@@ -26,7 +26,7 @@ fn mark(marks: &mut Vec<bool>, place: usize)
 
 impl Summary {
     /// Takes in one record more, which refers to what is there.
-    pub fn note(&mut self, record: CaseRecord<'_>) -> Result<(), AllocError>
+    pub(crate) fn note(&mut self, record: CaseRecord<'_>) -> Result<(), AllocError>
         requires { ⌜ now self .nodes < 18446744073709551615 ⌝ }
         ensures sums { λ r. ⌜ ((es : List Entry) → Sums-up (now (self .entry)) es → refers es (meant («record» .entry)) ≡ true → made r (λ _. Sums-up (now (self .exit)) (es ++ meant («record» .entry) ∷ []))) ⌝ }
         ensures grows { λ _. ⌜ now (self .exit) .nodes ≤ now (self .entry) .nodes + 1 ⌝ }
