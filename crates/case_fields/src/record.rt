@@ -61,7 +61,7 @@ pub enum CaseRecord<'a> {
 
 impl CaseRecord<'_> {
     /// The tag of its field.
-    pub(crate) fn tag(self) -> u8
+    pub fn tag(self) -> u8
         ensures { λ r. ⌜ r ≡ tag (meant (self .entry)) ⌝ }
     {
         match self {
