@@ -1,0 +1,4 @@
+pub mod Listed
+pub mod Books
+pub mod Writing
+pub mod Reading

@@ -1,0 +1,5 @@
+pub mod Loops
+pub mod Everys
+pub mod StoredRows
+pub mod Drafting
+pub mod Sounding

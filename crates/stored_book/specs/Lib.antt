@@ -1,0 +1,4 @@
+pub mod Stored
+pub mod Checks
+pub mod Books
+pub mod Drafts
