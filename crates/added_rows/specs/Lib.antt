@@ -1,0 +1,4 @@
+pub mod Terms
+pub mod OwnRows
+pub mod Adding
+pub mod Meaning

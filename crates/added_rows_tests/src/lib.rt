@@ -1,0 +1,3 @@
+//! Tests of rows added to a book.
+#[cfg(test)]
+mod tests;
