@@ -1,0 +1,5 @@
+pub mod Spread
+pub mod Placed
+pub mod Tables
+pub mod Kinds
+pub mod Columns
