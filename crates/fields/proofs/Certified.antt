@@ -1,9 +1,9 @@
 -- The one field of a certificate: which faults apply to it, and that the bytes determine it.
-use Rattle.std.proofs.Common.{◌≡◌, ℕ, ◌+◌, ◌<◌, ◌⊎◌, List, [], ◌++◌, length, sym, refl, ap, ◌∙◌, subst, inl, inr, ⊎_elim, arith}
+use Rattle.std.proofs.Common.{◌≡◌, ℕ, ◌<◌, ◌⊎◌, List, ◌++◌, length, refl, ⊎_elim, arith}
 use Rattle.std.proofs.lemmas.List.{length-append, nil_from_length}
 use Rattle.fields.specs.Bytes.{four}
 use Rattle.fields.specs.Faults.{rule, First}
-use Rattle.fields.specs.Fields.{Begins, Cut, InField}
+use Rattle.fields.specs.Fields.{Begins, Cut}
 use Rattle.fields.specs.Certificates.{certificate_tag, IsCertificate, certificate_checks}
 use Rattle.fields.specs.declared.certificate.CertificateKind.{CertificateKind}
 use Rattle.fields.specs.declared.fault.FaultKind.{FaultKind}

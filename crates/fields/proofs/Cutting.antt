@@ -1,6 +1,6 @@
 -- When bytes begin with a whole field, and with which.
-use Rattle.std.proofs.Common.{◌≡◌, ℕ, zero, suc, ◌+◌, ◌-◌, ◌*◌, ◌/◌, ◌%◌, ◌<◌, ◌≤◌, List, [], ◌∷◌, ◌++◌, length, get_or, take, drop, sym, refl, ap, ◌∙◌, subst, arith, lit<, w8, Fits}
-use Rattle.std.proofs.lemmas.List.{take_rest, length-append, length-drop, take-append-drop, drop-drop, get_or-drop, get_or-take, get_or_past, length-take-le}
+use Rattle.std.proofs.Common.{◌≡◌, ℕ, zero, suc, ◌+◌, ◌-◌, ◌*◌, ◌<◌, ◌≤◌, List, [], ◌∷◌, ◌++◌, length, get_or, take, drop, sym, ap, ◌∙◌, subst, arith, lit<, w8, Fits}
+use Rattle.std.proofs.lemmas.List.{take_rest, length-append, length-drop, take-append-drop, get_or-drop, length-take-le}
 use Rattle.fields.specs.Bytes.{Bytes, two}
 use Rattle.fields.specs.Fields.{field, Begins, Cut}
 use Rattle.fields.proofs.Numbers.{two_read}

@@ -1,5 +1,5 @@
 -- The one field of a certificate: a label, then the numbers of a schedule or of a set of multipliers.
-use Rattle.std.specs.Prelude.{◌≡◌, ℕ, ◌<◌, ◌⊎◌, List, [], ◌++◌, length, ◌≢◌}
+use Rattle.std.specs.Prelude.{ℕ, ◌<◌, ◌⊎◌, List, [], ◌++◌, length, ◌≢◌}
 use Rattle.fields.specs.Bytes.{four}
 use Rattle.fields.specs.Faults.{Checks}
 use Rattle.fields.specs.Fields.{Begins, Cut, InField}

@@ -1,4 +1,6 @@
 //! Fields of a file: one tag byte, a two-byte length and a body.
+#![tactic(auto)]
+
 pub mod certificate;
 pub mod fault;
 pub mod head;

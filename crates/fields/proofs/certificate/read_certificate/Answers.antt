@@ -1,4 +1,4 @@
-use Rattle.std.proofs.Common.{refl, rules}
+use Rattle.std.proofs.Common.{refl}
 use Rattle.fields.proofs.Laws.{first_one}
 use Rattle.fields.proofs.Certified.{sound, one}
 use Rattle.fields.proofs.certificate.read_certificate.Goals as goal

@@ -5,5 +5,5 @@ use Rattle.fields.proofs.number.split_i32.Goals as goal
 
 pub returns : goal.returns
 returns c =
-    let fits : SFits w32 c.from-be-bytes.result = search rules in
-    split_signed_4 _ _ (search rules) c.type-inv.bytes (to_z-of_z w32 _ fits ∙ c.from-be-bytes.ensures)
+    let fits : SFits w32 c.from_be_bytes.result = search rules in
+    split_signed_4 _ _ (search rules) c.type_inv.bytes (to_z-of_z w32 _ fits ∙ c.from_be_bytes.ensures)

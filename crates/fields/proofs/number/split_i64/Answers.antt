@@ -5,5 +5,5 @@ use Rattle.fields.proofs.number.split_i64.Goals as goal
 
 pub returns : goal.returns
 returns c =
-    let fits : SFits w64 c.from-be-bytes.result = search rules in
-    split_signed_8 _ _ (search rules) c.type-inv.bytes (to_z-of_z w64 _ fits ∙ c.from-be-bytes.ensures)
+    let fits : SFits w64 c.from_be_bytes.result = search rules in
+    split_signed_8 _ _ (search rules) c.type_inv.bytes (to_z-of_z w64 _ fits ∙ c.from_be_bytes.ensures)

@@ -3,4 +3,4 @@ use Rattle.fields.proofs.Numbers.{split_2}
 use Rattle.fields.proofs.number.split_u16.Goals as goal
 
 pub returns : goal.returns
-returns c = split_2 _ _ (search rules) c.type-inv.bytes c.from-be-bytes.ensures
+returns c = split_2 _ _ (search rules) c.type_inv.bytes c.from_be_bytes.ensures
