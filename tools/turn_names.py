@@ -78,6 +78,8 @@ def turn(text, valid, imported):
             if t.startswith(prefix) and len(by_plain.get(plain(t[len(prefix):]), ())) == 1:
                 return prefix + next(iter(by_plain[plain(t[len(prefix):])]))
         found = by_plain.get(plain(t), set())
+        if not found and re.match(r"(returns-)?in[-_](ok|err)-", t):
+            found = {v for v in valid if plain(v).startswith(plain(t) + "-in-") and "-clause" not in v}
         return next(iter(found)) if len(found) == 1 else t
 
     return TOKEN.sub(one, text)

@@ -1,24 +1,23 @@
 -- The tests of the field that bytes begin with, as the code makes them.
-use Rattle.std.proofs.Common.{◌≡◌, ℕ, ◌<◌, Bool, true, false, eqb, List, length, Some, None, Option, sym, refl, ap, ◌∙◌, subst, eqb-true}
+use Rattle.std.proofs.Common.{◌≡◌, ℕ, Bool, true, false, eqb, List, length, Some, None, Option, sym, refl, ap, ◌∙◌, eqb-true}
 use Rattle.fields.specs.Faults.{First}
 use Rattle.fields.specs.Fields.{Begins}
 use Rattle.fields.specs.Files.{checks}
 use Rattle.fields.specs.declared.fault.FaultKind.TheVariants.{UnknownTag, TagOrder, BadLength, OutOfRange, BadReference}
-use Rattle.fields.specs.Lawful.{Lawful}
 use Rattle.fields.proofs.Laws.{first_unknown, first_order, first_length, first_range, first_reference}
 use Rattle.case_fields.specs.declared.kind.RecordKind.{RecordKind}
 use Rattle.case_fields.specs.declared.kind.RecordKind.TheVariants.{Period, Node, Line, EnergyOffer, Bid, RegulationOffer, Requirement}
 use Rattle.case_fields.specs.declared.record.CaseRecord.{CaseRecord}
 use Rattle.case_fields.specs.declared.summary.Summary.{Summary}
 use Rattle.case_fields.specs.Cases.{case_format}
-use Rattle.case_fields.specs.Encoding.{tag, body, Written}
+use Rattle.case_fields.specs.Encoding.{tag, body}
 use Rattle.case_fields.specs.Entries.{Entry}
 use Rattle.case_fields.specs.Kinds.{choose, tag_of, kind, takes}
 use Rattle.case_fields.specs.Meant.{meant}
 use Rattle.case_fields.specs.Parsed.{Holds}
 use Rattle.case_fields.specs.Read.{Next}
 use Rattle.case_fields.specs.Summaries.{SumsUp}
-use Rattle.case_fields.specs.Tests.{last_tag, in_turn, known, follows, sized, in_range, refers}
+use Rattle.case_fields.specs.Tests.{tag_of_last, in_turn, known, follows, sized, in_range, refers}
 use Rattle.case_fields.proofs.Lawful.{lawful}
 
 -- the kind of a tag has that tag
@@ -43,7 +42,7 @@ module _ {s : Summary} {es : List Entry} (u : SumsUp s es) {bs : List ℕ} {t : 
 
     follows_is : follows es t ≡ in_turn s.last_tag k t
     follows_is =
-        sym (ap (λ (o : Option RecordKind). elim o [ Some j ↦ in_turn (last_tag es) j t | None ↦ false ]) some)
+        sym (ap (λ (o : Option RecordKind). elim o [ Some j ↦ in_turn (tag_of_last es) j t | None ↦ false ]) some)
         ∙ sym (ap (λ l. in_turn l k t) u.last)
 
     sized_is : (n : ℕ) → sized t n ≡ takes k n

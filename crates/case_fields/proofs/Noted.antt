@@ -1,14 +1,14 @@
 -- A summary with one record more.
-use Rattle.std.proofs.Common.{◌≡◌, ℕ, zero, suc, ◌+◌, ◌<◌, ◌≤◌, Bool, true, false, eqb, ltb, List, [], ◌∷◌, ◌++◌, length, get_or, set, vec_items, vec_len, sym, refl, ap, ◌∙◌, subst, arith, ltb-true, ne_eqb}
+use Rattle.std.proofs.Common.{◌≡◌, ℕ, zero, suc, ◌+◌, ◌<◌, Bool, true, false, eqb, ltb, List, [], ◌∷◌, ◌++◌, length, get_or, set, vec_items, vec_len, sym, refl, ap, ◌∙◌, subst, arith, ltb-true, ne_eqb}
 use Rattle.case_fields.specs.declared.summary.Summary.{Summary}
 use Rattle.case_fields.specs.Kinds.{both}
 use Rattle.case_fields.specs.Entries.{RegulationOffer, Entry}
 use Rattle.case_fields.specs.Entries.Entry.{regulation_offer}
 use Rattle.case_fields.specs.Encoding.{tag}
 use Rattle.case_fields.specs.Summaries.{SumsUp}
-use Rattle.case_fields.specs.Tests.{either, one, last_tag, count, regulates, regulated, refers}
+use Rattle.case_fields.specs.Tests.{either, one, tag_of_last, count, regulates, regulated, refers}
 
-last_push : (es : List Entry) (e : Entry) → last_tag (es ++ e ∷ []) ≡ tag e
+last_push : (es : List Entry) (e : Entry) → tag_of_last (es ++ e ∷ []) ≡ tag e
 last_push [] e = refl
 last_push (d ∷ []) e = refl
 last_push (d ∷ c ∷ es) e = last_push (c ∷ es) e

@@ -7,7 +7,7 @@ use Rattle.case_fields.specs.declared.part.Block.{Block}
 use Rattle.case_fields.specs.declared.part.Point.{Point}
 use Rattle.case_fields.specs.Kinds.{both}
 use Rattle.case_fields.specs.Parts.{pairs_in, block_of, point_of, blocks_in, points_in}
-use Rattle.case_fields.specs.Tests.{minus, is_quantity, is_block_price, is_signed_quantity, each_block, sum_of_maxima, blocks_fit, each_point, above, rising, points_fit}
+use Rattle.case_fields.specs.Tests.{minus, is_quantity, is_block_price, is_signed_quantity, each_block, sum_of_maxima, blocks_fit, each_point, above, points_fit}
 
 -- a number that was stored is the number
 kept : {X : Type 0} (f : ℤ → X) (z : ℤ) → SFits w32 z → f (to_z w32 (of_z w32 z)) ≡ f z

@@ -5,7 +5,7 @@ use Rattle.fields.specs.Bytes.{two, four, signed_four, put}
 use Rattle.case_fields.specs.declared.part.Block.{Block}
 use Rattle.case_fields.specs.declared.part.Point.{Point}
 use Rattle.case_fields.specs.Parts.{blocks_bytes, points_bytes}
-use Rattle.case_fields.specs.Entries.{Period, Node, Line, EnergyOffer, Bid, RegulationOffer, Requirement, Entry}
+use Rattle.case_fields.specs.Entries.{Entry}
 use Rattle.case_fields.specs.Entries.Entry.{period, node, line, energy_offer, bid, regulation_offer, requirement}
 
 abbrev pub tag : Entry → ℕ

@@ -1,5 +1,5 @@
 -- The kinds of case records: the tag of each, and how long its field can be.
-use Rattle.std.specs.Prelude.{ℕ, ◌+◌, ◌-◌, ◌*◌, ◌/◌, Bool, true, false, cond, Some, None, Option, ◌==◌, nat_le}
+use Rattle.std.specs.Prelude.{ℕ, ◌+◌, ◌-◌, ◌*◌, ◌/◌, Bool, true, false, Some, None, Option, ◌==◌, nat_le}
 use Rattle.case_fields.specs.declared.kind.RecordKind.{RecordKind}
 use Rattle.case_fields.specs.declared.kind.RecordKind.TheVariants.{Period, Node, Line, EnergyOffer, Bid, RegulationOffer, Requirement}
 

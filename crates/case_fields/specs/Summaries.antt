@@ -2,10 +2,10 @@
 use Rattle.std.specs.Prelude.{◌≡◌, ℕ, false, List, vec_items, vec_len, nat_lt, slice_index_or}
 use Rattle.case_fields.specs.declared.summary.Summary.{Summary}
 use Rattle.case_fields.specs.Entries.{Entry}
-use Rattle.case_fields.specs.Tests.{last_tag, count, regulated}
+use Rattle.case_fields.specs.Tests.{tag_of_last, count, regulated}
 
 pub record SumsUp (s : Summary) (es : List Entry) : Type 0 where
-  pub last : s.last_tag ≡ last_tag es
+  pub last : s.last_tag ≡ tag_of_last es
   pub period : s.has_period ≡ nat_lt 0 (count 1 es)
   pub requirement : s.has_requirement ≡ nat_lt 0 (count 15 es)
   pub nodes : s.nodes ≡ count 2 es

@@ -1,10 +1,10 @@
 -- The tests that a case record has to pass.
-use Rattle.std.specs.Prelude.{ℕ, ◌+◌, Bool, true, false, not, List, [], ◌∷◌, ℤ, pos, ◌+ℤ◌, neg_ℤ, Some, None, Option, ◌==◌, int_le, int_lt, nat_le, nat_lt}
+use Rattle.std.specs.Prelude.{ℕ, ◌+◌, Bool, true, false, not, List, [], ◌∷◌, ℤ, pos, ◌+ℤ◌, neg_ℤ, Some, None, ◌==◌, int_le, int_lt, nat_le, nat_lt}
 use Rattle.case_fields.specs.declared.kind.RecordKind.{RecordKind}
 use Rattle.case_fields.specs.declared.part.Block.{Block}
 use Rattle.case_fields.specs.declared.part.Point.{Point}
 use Rattle.case_fields.specs.Kinds.{both, kind, once, takes}
-use Rattle.case_fields.specs.Entries.{Period, Node, Line, EnergyOffer, Bid, RegulationOffer, Requirement, Entry}
+use Rattle.case_fields.specs.Entries.{Entry}
 use Rattle.case_fields.specs.Entries.Entry.{period, node, line, energy_offer, bid, regulation_offer, requirement}
 use Rattle.case_fields.specs.Encoding.{tag}
 
@@ -19,17 +19,17 @@ abbrev pub known : ℕ → Bool
 known t = elim (kind t) [ Some k ↦ true | None ↦ false ]
 
 -- the tag of the last record, nought before the first
-abbrev pub last_tag : List Entry → ℕ
-last_tag [] = 0
-last_tag (e ∷ []) = tag e
-last_tag (e ∷ f ∷ es) = last_tag (f ∷ es)
+abbrev pub tag_of_last : List Entry → ℕ
+tag_of_last [] = 0
+tag_of_last (e ∷ []) = tag e
+tag_of_last (e ∷ f ∷ es) = tag_of_last (f ∷ es)
 
 -- tags never fall, and those of the period and of the requirement come once
 abbrev pub in_turn : ℕ → RecordKind → ℕ → Bool
 in_turn last k t = both (nat_le last t) (not (both (once k) (last == t)))
 
 abbrev pub follows : List Entry → ℕ → Bool
-follows es t = elim (kind t) [ Some k ↦ in_turn (last_tag es) k t | None ↦ false ]
+follows es t = elim (kind t) [ Some k ↦ in_turn (tag_of_last es) k t | None ↦ false ]
 
 -- a body of this tag can be so long
 abbrev pub sized : ℕ → ℕ → Bool

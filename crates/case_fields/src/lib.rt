@@ -1,4 +1,6 @@
 //! The records of a case: one market half hour with its nodes, lines, offers and bids.
+#![tactic(auto)]
+
 mod kind;
 mod parse;
 pub mod part;

@@ -7,7 +7,7 @@ use Rattle.case_fields.specs.Entries.{Entry}
 use Rattle.case_fields.specs.Encoding.{tag}
 use Rattle.case_fields.specs.Kinds.{both, kind, once}
 use Rattle.case_fields.specs.declared.kind.RecordKind.{RecordKind}
-use Rattle.case_fields.specs.Tests.{last_tag, in_turn, follows, one, count}
+use Rattle.case_fields.specs.Tests.{tag_of_last, in_turn, follows, one, count}
 use Rattle.case_fields.specs.Cases.{case_format}
 use Rattle.case_fields.proofs.Ranges.{parts}
 use Rattle.case_columns.specs.Kinds.{below}
@@ -18,23 +18,23 @@ abbrev rises : ℕ → List Entry → Bool
 rises t [] = true
 rises t (e ∷ es) = leb t (tag e) && rises (tag e) es
 
-last_pushed : (es : List Entry) (e : Entry) → last_tag (es ++ e ∷ []) ≡ tag e
+last_pushed : (es : List Entry) (e : Entry) → tag_of_last (es ++ e ∷ []) ≡ tag e
 last_pushed [] e = refl
 last_pushed (x ∷ []) e = refl
 last_pushed (x ∷ y ∷ es) e = last_pushed (y ∷ es) e
 
-follows_last : (before : List Entry) (t : ℕ) → follows before t ≡ true → leb (last_tag before) t ≡ true
+follows_last : (before : List Entry) (t : ℕ) → follows before t ≡ true → leb (tag_of_last before) t ≡ true
 follows_last before t h = go (kind t) h
   where
-    go : (k : Option RecordKind) → elim k [ Some j ↦ in_turn (last_tag before) j t | None ↦ false ] ≡ true → leb (last_tag before) t ≡ true
-    go (Some j) e = (parts (leb (last_tag before) t) (not (both (once j) (eqb (last_tag before) t))) e).0
+    go : (k : Option RecordKind) → elim k [ Some j ↦ in_turn (tag_of_last before) j t | None ↦ false ] ≡ true → leb (tag_of_last before) t ≡ true
+    go (Some j) e = (parts (leb (tag_of_last before) t) (not (both (once j) (eqb (tag_of_last before) t))) e).0
     go None e = absurd (let z : ◌≡◌ {A = ℕ} 0 1 = cc in omega arith)
 
-fit_rises : (before es : List Entry) → Fit case_format before es → rises (last_tag before) es ≡ true
+fit_rises : (before es : List Entry) → Fit case_format before es → rises (tag_of_last before) es ≡ true
 unfolding case_format
 fit_rises before [] w = refl
 fit_rises before (e ∷ es) w =
-    and_from (leb (last_tag before) (tag e)) (rises (tag e) es) (follows_last before (tag e) w.0.follows)
+    and_from (leb (tag_of_last before) (tag e)) (rises (tag e) es) (follows_last before (tag e) w.0.follows)
     (ap (λ (t : ℕ). rises t es) (sym (last_pushed before e)) ∙ fit_rises (before ++ e ∷ []) es w.1)
 
 -- above a tag there is none of it, and none below it

@@ -10,7 +10,7 @@ use Rattle.fields.proofs.Laws.{fit_push, encoding_push}
 use Rattle.listing_fields.specs.Entries.{Entry}
 use Rattle.listing_fields.specs.Entries.Entry.{column, row}
 use Rattle.listing_fields.specs.Encoding.{tag, body}
-use Rattle.listing_fields.specs.Tests.{last_tag, column_count}
+use Rattle.listing_fields.specs.Tests.{tag_of_last, column_count}
 use Rattle.listing_fields.specs.Listings.{listing_format}
 use Rattle.listing_fields.specs.Reading.{Reads}
 
@@ -19,7 +19,7 @@ pub record Seen (bs : List ℕ) (es : List Entry) (rest : List ℕ) (columns las
   pub bytes : bs ≡ encoding listing_format es ++ rest
   pub each : Fit listing_format [] es
   pub columns_are : columns ≡ column_count es
-  pub last_is : last ≡ last_tag es
+  pub last_is : last ≡ tag_of_last es
 
 -- one field more
 count_push : (es : List Entry) (e : Entry) → column_count (es ++ e ∷ []) ≡ column_count es + column_count (e ∷ [])
@@ -27,7 +27,7 @@ count_push [] e = sym (zero-add (column_count (e ∷ [])))
 count_push (column c ∷ es) e = ap (λ n. 1 + n) (count_push es e) ∙ sym (add_assoc 1 (column_count es) (column_count (e ∷ [])))
 count_push (row r ∷ es) e = count_push es e
 
-last_push : (es : List Entry) (e : Entry) → last_tag (es ++ e ∷ []) ≡ tag e
+last_push : (es : List Entry) (e : Entry) → tag_of_last (es ++ e ∷ []) ≡ tag e
 last_push [] e = refl
 last_push (d ∷ []) e = refl
 last_push (d ∷ f ∷ es) e = last_push (f ∷ es) e

@@ -10,14 +10,14 @@ abbrev pub known : ℕ → Bool
 known t = t == 10 || t == 11
 
 -- the tag of the last field, nought before the first
-abbrev pub last_tag : List Entry → ℕ
-last_tag [] = 0
-last_tag (e ∷ []) = tag e
-last_tag (e ∷ f ∷ es) = last_tag (f ∷ es)
+abbrev pub tag_of_last : List Entry → ℕ
+tag_of_last [] = 0
+tag_of_last (e ∷ []) = tag e
+tag_of_last (e ∷ f ∷ es) = tag_of_last (f ∷ es)
 
 -- tags never fall: no column follows a row
 abbrev pub follows : List Entry → ℕ → Bool
-follows es t = nat_le (last_tag es) t
+follows es t = nat_le (tag_of_last es) t
 
 -- a column has 13 bytes, a row 18 and then six a term
 abbrev pub sized : ℕ → ℕ → Bool

@@ -1,4 +1,6 @@
 //! The fields of a listing: a book of columns and rows written as bytes.
+#![tactic(auto)]
+
 mod column;
 pub mod read;
 pub mod record;

@@ -7,7 +7,7 @@ ghost use Rattle.fields.specs.declared.fault.FieldFault.{FieldFault};
 ghost use Rattle.fields.specs.declared.fault.ReadError.TheVariants.{Memory, Field};
 ghost use Rattle.listing_fields.specs.Entries.{Entry};
 ghost use Rattle.listing_fields.specs.Encoding.{tag};
-ghost use Rattle.listing_fields.specs.Tests.{known, last_tag, column_count};
+ghost use Rattle.listing_fields.specs.Tests.{known, tag_of_last, column_count};
 ghost use Rattle.listing_fields.specs.Listings.{listing_format};
 ghost use Rattle.listing_fields.specs.Meant.{meant};
 ghost use Rattle.listing_fields.specs.Reading.{Reads};
@@ -57,7 +57,7 @@ fn judge_field<'a>(
     last_tag: u8,
     field: head::Field<'a>,
 ) -> Result<ListingRecord<'a>, FaultKind>
-    ensures { (es : List Entry) (bs rest : List ℕ) → Begins bs field.entry.tag field.entry.body.now rest → columns ≡ column_count es → last_tag ≡ last_tag es →
+    ensures { (es : List Entry) (bs rest : List ℕ) → Begins bs field.entry.tag field.entry.body.now rest → columns ≡ column_count es → last_tag ≡ tag_of_last es →
         MatchResult result (λ v. Reads es bs rest (meant v)) (First (checks listing_format es bs)) }
 {
     if !is_known(field.tag) {
@@ -79,7 +79,7 @@ fn next_record<'a>(
     last_tag: u8,
     input: &'a [u8],
 ) -> Result<(ListingRecord<'a>, &'a [u8]), FaultKind>
-    ensures { (es : List Entry) → columns ≡ column_count es → last_tag ≡ last_tag es →
+    ensures { (es : List Entry) → columns ≡ column_count es → last_tag ≡ tag_of_last es →
         MatchResult result (λ p. Reads es input.now p.1.now (meant p.0)) (First (checks listing_format es input.now)) }
 {
     let (field, rest) = head::cut_field(input)?;

@@ -6,7 +6,7 @@ use Rattle.fields.specs.Files.{Fits, Fit, IsFile}
 use Rattle.listing_fields.specs.Entries.{Entry, Column as ColumnEntry, Row as RowEntry}
 use Rattle.listing_fields.specs.Entries.Entry.{column, row}
 use Rattle.listing_fields.specs.Encoding.{tag, body}
-use Rattle.listing_fields.specs.Tests.{last_tag, column_count, terms_refer, in_range}
+use Rattle.listing_fields.specs.Tests.{tag_of_last, column_count, terms_refer, in_range}
 use Rattle.listing_fields.specs.Listings.{listing_format}
 use Rattle.books.specs.declared.part.Column.{Column}
 use Rattle.books.specs.Lists.{FullRow, Lists}
@@ -25,7 +25,7 @@ count_push (row r ∷ es) e = count_push es e
 count_row : (es : List Entry) (r : RowEntry) → column_count (es ++ row r ∷ []) ≡ column_count es
 count_row es r = count_push es (row r) ∙ add-zero (column_count es)
 
-last_push : (es : List Entry) (e : Entry) → last_tag (es ++ e ∷ []) ≡ tag e
+last_push : (es : List Entry) (e : Entry) → tag_of_last (es ++ e ∷ []) ≡ tag e
 last_push [] e = refl
 last_push (d ∷ []) e = refl
 last_push (d ∷ f ∷ es) e = last_push (f ∷ es) e
@@ -46,7 +46,7 @@ unfolding sound
 sound_from b f s = and_from _ _ (and_from _ _ f s.columns) s.rows
 
 -- a sound column and a sound row fit after others
-column_fits : (before : List Entry) (c : Column) → last_tag before ≤ 10 → sound_column c ≡ true → Fits listing_format before (column_entry c)
+column_fits : (before : List Entry) (c : Column) → tag_of_last before ≤ 10 → sound_column c ≡ true → Fits listing_format before (column_entry c)
 unfolding listing_format four signed_four
 column_fits before c l h =
     record {
@@ -63,7 +63,7 @@ row_long : (r : FullRow) → length (body (row_entry r)) ≡ 18 + 6 * length r.t
 unfolding eight signed_eight
 row_long r = omega (arith, length-terms r.terms)
 
-row_fits : (before : List Entry) (r : FullRow) → last_tag before ≤ 11 → length r.terms ≤ 500 → sound_row (column_count before) r ≡ true → Fits listing_format before (row_entry r)
+row_fits : (before : List Entry) (r : FullRow) → tag_of_last before ≤ 11 → length r.terms ≤ 500 → sound_row (column_count before) r ≡ true → Fits listing_format before (row_entry r)
 unfolding listing_format
 row_fits before r l s h =
     let p = row_passes (column_count before) r h in
@@ -77,7 +77,7 @@ row_fits before r l s h =
       in_order = p.rise;
     }
 
-rows_fit : (before : List Entry) (rs : List FullRow) (n : ℕ) → last_tag before ≤ 11 → column_count before ≡ n → every short rs ≡ true → every (sound_row n) rs ≡ true → Fit listing_format before (map row_entry rs)
+rows_fit : (before : List Entry) (rs : List FullRow) (n : ℕ) → tag_of_last before ≤ 11 → column_count before ≡ n → every short rs ≡ true → every (sound_row n) rs ≡ true → Fit listing_format before (map row_entry rs)
 rows_fit before [] n l k s h = tt
 rows_fit before (r ∷ rs) n l k s h =
     let p = and_parts (sound_row n r) (every (sound_row n) rs) h in
@@ -87,7 +87,7 @@ rows_fit before (r ∷ rs) n l k s h =
       rows_fit next rs n (omega (arith, last_push before (row_entry r))) (count_row before _ ∙ k) q.1 p.1,
     )
 
-columns_fit : (before : List Entry) (cs : List Column) (rs : List FullRow) (n : ℕ) → last_tag before ≤ 10 → column_count before + length cs ≡ n → every short rs ≡ true → every sound_column cs ≡ true → every (sound_row n) rs ≡ true → Fit listing_format before (map column_entry cs ++ map row_entry rs)
+columns_fit : (before : List Entry) (cs : List Column) (rs : List FullRow) (n : ℕ) → tag_of_last before ≤ 10 → column_count before + length cs ≡ n → every short rs ≡ true → every sound_column cs ≡ true → every (sound_row n) rs ≡ true → Fit listing_format before (map column_entry cs ++ map row_entry rs)
 columns_fit before [] rs n l k s h g = rows_fit before rs n (omega (arith, l)) (omega (arith, k)) s g
 columns_fit before (c ∷ cs) rs n l k s h g =
     let p = and_parts (sound_column c) (every sound_column cs) h in
@@ -137,9 +137,9 @@ record Rows (n : ℕ) (es : List Entry) : Type 0 where
   same : map row_entry (rows_given es) ≡ es
   each : every (sound_row n) (rows_given es) ≡ true
 
-no_column : {n : ℕ} {es : List Entry} (before : List Entry) (c : ColumnEntry) → last_tag before ≡ 11 → Fits listing_format before (column c) → Rows n es
+no_column : {n : ℕ} {es : List Entry} (before : List Entry) (c : ColumnEntry) → tag_of_last before ≡ 11 → Fits listing_format before (column c) → Rows n es
 unfolding listing_format
-no_column before c l p = absurd (omega (arith, l, leb-true (last_tag before) 10 p.follows))
+no_column before c l p = absurd (omega (arith, l, leb-true (tag_of_last before) 10 p.follows))
 
 row_more : (before : List Entry) (r : RowEntry) (es : List Entry) (n : ℕ) → column_count before ≡ n → Fits listing_format before (row r) → Rows n es → Rows n (row r ∷ es)
 unfolding listing_format
@@ -154,7 +154,7 @@ row_more before r es n k p rest =
           rest.each;
     }
 
-only_rows : (before es : List Entry) (n : ℕ) → last_tag before ≡ 11 → column_count before ≡ n → Fit listing_format before es → Rows n es
+only_rows : (before es : List Entry) (n : ℕ) → tag_of_last before ≡ 11 → column_count before ≡ n → Fit listing_format before es → Rows n es
 only_rows before [] n l k p = record { none = refl; same = refl; each = refl }
 only_rows before (column c ∷ es) n l k p = no_column before c l p.0
 only_rows before (row r ∷ es) n l k p =

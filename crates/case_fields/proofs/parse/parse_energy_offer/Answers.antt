@@ -6,18 +6,18 @@ use Rattle.case_fields.proofs.parse.parse_energy_offer.Goals as goal
 
 pub returns : goal.returns
 returns c =
-    let fits_end_minimum : SFits w32 c.in-ok-end-minimum.end_minimum = search rules in
-    let fits_end_maximum : SFits w32 c.in-ok-end-maximum.end_maximum = search rules in
-    let fits_violation_price : SFits w32 c.in-ok-violation-price.violation_price = search rules in
-    let part : Bytes c.in-ok-violation-price.bytes.now =
-    after (signed_four c.in-ok-violation-price.violation_price) c.in-ok-violation-price.bytes.now c.in-ok-violation-price.ensures.0 (after (signed_four c.in-ok-end-maximum.end_maximum) c.in-ok-end-maximum.rest.now c.in-ok-end-maximum.ensures.0 (after (signed_four c.in-ok-end-minimum.end_minimum) c.in-ok-end-minimum.rest.now c.in-ok-end-minimum.ensures.0 (after (two c.in-ok-node.node) c.in-ok-node.rest.now c.in-ok-node.ensures.0 (λ k. (c.type-inv.body k).fits)))) in
-    let eighths : length c.in-ok-violation-price.bytes.now % 8 ≡ 0 = omega (arith, c.requires.1, c.in-ok-node.ensures.1, c.in-ok-end-minimum.ensures.1, c.in-ok-end-maximum.ensures.1, c.in-ok-violation-price.ensures.1) in
+    let fits_end_minimum : SFits w32 c.in_ok-end_minimum.end_minimum = search rules in
+    let fits_end_maximum : SFits w32 c.in_ok-end_maximum.end_maximum = search rules in
+    let fits_violation_price : SFits w32 c.in_ok-violation_price.violation_price = search rules in
+    let part : Bytes c.in_ok-violation_price.bytes.now =
+    after (signed_four c.in_ok-violation_price.violation_price) c.in_ok-violation_price.bytes.now c.in_ok-violation_price.ensures.0 (after (signed_four c.in_ok-end_maximum.end_maximum) c.in_ok-end_maximum.rest.now c.in_ok-end_maximum.ensures.0 (after (signed_four c.in_ok-end_minimum.end_minimum) c.in_ok-end_minimum.rest.now c.in_ok-end_minimum.ensures.0 (after (two c.in_ok-node.node) c.in_ok-node.rest.now c.in_ok-node.ensures.0 (λ k. (c.type_inv.body k).fits)))) in
+    let eighths : length c.in_ok-violation_price.bytes.now % 8 ≡ 0 = omega (arith, c.requires.1, c.in_ok-node.ensures.1, c.in_ok-end_minimum.ensures.1, c.in_ok-end_maximum.ensures.1, c.in_ok-violation_price.ensures.1) in
     record {
-      bytes = step (two c.in-ok-node.node) c.in-ok-node.ensures.0 (
-          signed_step c.in-ok-end-minimum.end_minimum fits_end_minimum c.in-ok-end-minimum.ensures.0 (
-          signed_step c.in-ok-end-maximum.end_maximum fits_end_maximum c.in-ok-end-maximum.ensures.0 (
-          signed_step c.in-ok-violation-price.violation_price fits_violation_price c.in-ok-violation-price.ensures.0 (
-          (sym (blocks_back c.in-ok-violation-price.bytes.now part eighths))))));
+      bytes = step (two c.in_ok-node.node) c.in_ok-node.ensures.0 (
+          signed_step c.in_ok-end_minimum.end_minimum fits_end_minimum c.in_ok-end_minimum.ensures.0 (
+          signed_step c.in_ok-end_maximum.end_maximum fits_end_maximum c.in_ok-end_maximum.ensures.0 (
+          signed_step c.in_ok-violation_price.violation_price fits_violation_price c.in_ok-violation_price.ensures.0 (
+          (sym (blocks_back c.in_ok-violation_price.bytes.now part eighths))))));
       tagged = refl;
-      written = (search rules, search rules, search rules, search rules, blocks_written c.in-ok-violation-price.bytes.now part);
+      written = (search rules, search rules, search rules, search rules, blocks_written c.in_ok-violation_price.bytes.now part);
     }

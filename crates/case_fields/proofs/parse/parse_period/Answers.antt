@@ -6,11 +6,11 @@ use Rattle.case_fields.proofs.parse.parse_period.Goals as goal
 
 pub returns : goal.returns
 returns c =
-    let fits_allowance : SFits w32 c.in-ok-allowance.allowance = search rules in
+    let fits_allowance : SFits w32 c.in_ok-allowance.allowance = search rules in
     record {
-      bytes = step (four c.in-ok-number.number) c.in-ok-number.ensures.0 (
-          signed_step c.in-ok-allowance.allowance fits_allowance c.in-ok-allowance.ensures.0 (
-          nil_from_length c.in-ok-allowance.field-0-1.now (search rules)));
+      bytes = step (four c.in_ok-number.number) c.in_ok-number.ensures.0 (
+          signed_step c.in_ok-allowance.allowance fits_allowance c.in_ok-allowance.ensures.0 (
+          nil_from_length c.in_ok-allowance.field-0-1.now (search rules)));
       tagged = refl;
       written = (search rules, search rules);
     }

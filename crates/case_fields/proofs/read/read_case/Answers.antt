@@ -8,7 +8,7 @@ use Rattle.case_fields.proofs.read.read_case.Goals as goal
 pub returns : goal.returns
 returns c =
     record {
-      reads = c.read-records.ensures;
-      accepts = accepts_only case_format lawful _ (λ v. map meant (vec_items v)) c.read-records.result c.read-records.ensures;
-      refuses = refuses_only case_format lawful _ (λ v. map meant (vec_items v)) c.read-records.result c.read-records.ensures;
+      reads = c.read_records.ensures;
+      accepts = accepts_only case_format lawful _ (λ v. map meant (vec_items v)) c.read_records.result c.read_records.ensures;
+      refuses = refuses_only case_format lawful _ (λ v. map meant (vec_items v)) c.read_records.result c.read_records.ensures;
     }

@@ -8,8 +8,8 @@ use Rattle.listing_fields.proofs.Single.{lawful}
 use Rattle.listing_fields.proofs.Steps.{seen_more, less_left, count_one, columns_most, seen_all, seen_fault}
 use Rattle.listing_fields.proofs.read.read_listing.Goals as goal
 
-pub overflow-add-columns : goal.overflow-add-columns
-overflow-add-columns c =
+pub overflow_add-columns : goal.overflow_add-columns
+overflow_add-columns c =
     let seen = c.loop-rest.invariant in
     let left : 0 < length c.loop-rest.rest.now = search rules in
     let whole : length c.args.input.now < 18446744073709551616 = search rules in
@@ -26,13 +26,13 @@ loop-rest-preserved c =
     let seen = c.loop-rest.invariant in
     let es = map meant (vec_items c.loop-rest.records) in
     let next = c.in-Ok.next in
-    let pushed : vec_items c.push.new.self ≡ vec_items c.loop-rest.records ++ next ∷ [] = c.in-ok-push.ensures.items in
+    let pushed : vec_items c.push.new.self ≡ vec_items c.loop-rest.records ++ next ∷ [] = c.in_ok-push-in-Ok.ensures.items in
     let items = ap (map meant) pushed ∙ map_push meant (vec_items c.loop-rest.records) next in
     let more = c.in-Ok.ensures es seen.columns_are seen.last_is in
-    seen_more _ (meant next) _ _ _ seen more items (ap (λ n. c.loop-rest.columns + n) c.columns-columns.ensures) c.tag-last-tag.ensures
+    seen_more _ (meant next) _ _ _ seen more items (ap (λ n. c.loop-rest.columns + n) c.columns-columns.ensures) c.tag-last_tag.ensures
 
-pub overflow-sub-offset : goal.overflow-sub-offset
-overflow-sub-offset c = omega (arith, columns_most c.loop-rest.invariant)
+pub overflow_sub-offset : goal.overflow_sub-offset
+overflow_sub-offset c = omega (arith, columns_most c.loop-rest.invariant)
 
 pub returns-in-Err : goal.returns-in-Err
 returns-in-Err c =

@@ -5,5 +5,5 @@ use Rattle.listing_fields.proofs.term.split_term.Goals as goal
 
 pub returns : goal.returns
 returns c =
-    let fits : SFits w32 c.from-be-bytes-coefficient.result = search rules in
-    terms_more _ _ _ (search rules) c.from-be-bytes-column.ensures (to_z-of_z w32 _ fits ∙ c.from-be-bytes-coefficient.ensures)
+    let fits : SFits w32 c.from_be_bytes-coefficient.result = search rules in
+    terms_more _ _ _ (search rules) c.from_be_bytes-column.ensures (to_z-of_z w32 _ fits ∙ c.from_be_bytes-coefficient.ensures)

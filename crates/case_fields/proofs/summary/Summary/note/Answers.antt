@@ -1,6 +1,5 @@
-use Rattle.std.proofs.Common.{◌≡◌, ◌<◌, true, false, length, get_or, vec_items, vec_len, sym, refl, ap, ◌∙◌, arith, rules}
+use Rattle.std.proofs.Common.{false, get_or, refl, ap, ◌∙◌, arith}
 use Rattle.case_fields.specs.Meant.{meant}
-use Rattle.case_fields.specs.Tests.{refers}
 use Rattle.case_fields.proofs.Noted.{one_more, unset_push, marked, offer_there}
 use Rattle.case_fields.proofs.summary.Summary.note.Goals as goal
 
@@ -18,10 +17,10 @@ returns-in-Node c =
       grows = omega arith;
     }
 
-pub returns-in-ok-push : goal.returns-in-ok-push
-returns-in-ok-push c =
+pub returns-in_ok-push-in-EnergyOffer : goal.returns-in_ok-push-in-EnergyOffer
+returns-in_ok-push-in-EnergyOffer c =
     record {
-      sums = λ es s r. one_more _ _ es _ _ (ap meant c.in-EnergyOffer.is) s c.tag-self.ensures refl refl (omega arith) c.in-ok-push.ensures.len (λ k. ap (λ l. get_or l k false) c.in-ok-push.ensures.items ∙ unset_push _ k);
+      sums = λ es s r. one_more _ _ es _ _ (ap meant c.in-EnergyOffer.is) s c.tag-self.ensures refl refl (omega arith) c.in_ok-push-in-EnergyOffer.ensures.len (λ k. ap (λ l. get_or l k false) c.in_ok-push-in-EnergyOffer.ensures.items ∙ unset_push _ k);
       grows = omega arith;
     }
 

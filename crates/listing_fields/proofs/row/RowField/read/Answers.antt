@@ -6,14 +6,14 @@ use Rattle.listing_fields.proofs.row.RowField.read.Goals as goal
 
 pub returns : goal.returns
 returns c =
-    let k = c.in-ok-code.ensures in
-    let s = c.in-ok-side.ensures in
-    let l = c.in-ok-lower.ensures in
-    let u = c.in-ok-upper.ensures in
-    let fl : SFits w64 c.in-ok-lower.lower = search rules in
-    let fu : SFits w64 c.in-ok-upper.upper = search rules in
-    let whole : length c.in-ok-upper.rest.now % 6 ≡ 0 = search rules in (
+    let k = c.in_ok-code.ensures in
+    let s = c.in_ok-side.ensures in
+    let l = c.in_ok-lower.ensures in
+    let u = c.in_ok-upper.ensures in
+    let fl : SFits w64 c.in_ok-lower.lower = search rules in
+    let fu : SFits w64 c.in_ok-upper.upper = search rules in
+    let whole : length c.in_ok-upper.rest.now % 6 ≡ 0 = search rules in (
       eq-eqb _ _ (omega (arith, k.1, s.1, l.1, u.1)),
-      row_parsed _ _ _ _ _ _ _ _ _ _ _ (to_z-of_z w64 _ fl) (to_z-of_z w64 _ fu) (λ i. (c.type-inv.bytes i).fits) k.0 s.0 l.0 u.0 whole,
-      (search rules, search rules, search rules, search rules, row_terms_written _ _ _ _ _ _ _ _ _ _ _ (to_z-of_z w64 _ fl) (to_z-of_z w64 _ fu) (λ i. (c.type-inv.bytes i).fits) k.0 s.0 l.0 u.0),
+      row_parsed _ _ _ _ _ _ _ _ _ _ _ (to_z-of_z w64 _ fl) (to_z-of_z w64 _ fu) (λ i. (c.type_inv.bytes i).fits) k.0 s.0 l.0 u.0 whole,
+      (search rules, search rules, search rules, search rules, row_terms_written _ _ _ _ _ _ _ _ _ _ _ (to_z-of_z w64 _ fl) (to_z-of_z w64 _ fu) (λ i. (c.type_inv.bytes i).fits) k.0 s.0 l.0 u.0),
     )

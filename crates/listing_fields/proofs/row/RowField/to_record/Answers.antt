@@ -12,8 +12,8 @@ returns c h =
     let self = c.args.self in
     let fl : SFits w64 self.lower = search rules in
     let fu : SFits w64 self.upper = search rules in
-    let a : c.side-if.result ≡ cond (has_lower self.side) (Some self.lower) None = c.side-if.ensures ∙ (λ i. cond (c.has_lower.ensures i) (Some (to_z-of_z w64 self.lower fl i)) None) in
-    let b : c.side-if-2.result ≡ cond (has_upper self.side) (Some self.upper) None = c.side-if-2.ensures ∙ (λ i. cond (c.has_upper.ensures i) (Some (to_z-of_z w64 self.upper fu i)) None) in
+    let a : c.side_if.result ≡ cond (has_lower self.side) (Some self.lower) None = c.side_if.ensures ∙ (λ i. cond (c.has_lower.ensures i) (Some (to_z-of_z w64 self.lower fl i)) None) in
+    let b : c.side_if-2.result ≡ cond (has_upper self.side) (Some self.upper) None = c.side_if-2.ensures ∙ (λ i. cond (c.has_upper.ensures i) (Some (to_z-of_z w64 self.upper fu i)) None) in
     let p = row_sides (record { code = self.code; side = self.side; lower = self.lower; upper = self.upper; terms = terms_in self.terms.bytes.now }) h in
     let q = sides_meant self.side self.lower self.upper _ _ p a b in
     λ i. row (record { code = self.code; side = q.0 i; lower = q.1 i; upper = q.2 i; terms = terms_in self.terms.bytes.now })

@@ -10,14 +10,14 @@ returns-then-i-len c =
     let bytes = c.args.self.bytes.now in
     sym (slice_get_past (terms_in bytes) c.args.i (omega (arith, terms_length bytes, c.len.ensures, c.if-i-len.true)))
 
-pub overflow-mul-i : goal.overflow-mul-i
-overflow-mul-i c = search (rules, terms_length)
+pub overflow_mul-i : goal.overflow_mul-i
+overflow_mul-i c = search (rules, terms_length)
 
-pub slice-bounds-split-term-count : goal.slice-bounds-split-term-count
-slice-bounds-split-term-count c = search (rules, terms_length)
+pub slice_bounds-split_term-count : goal.slice_bounds-split_term-count
+slice_bounds-split_term-count c = search (rules, terms_length)
 
-pub slice-bounds-split-term-start : goal.slice-bounds-split-term-start
-slice-bounds-split-term-start c = search (rules, terms_length)
+pub slice_bounds-split_term-start : goal.slice_bounds-split_term-start
+slice_bounds-split_term-start c = search (rules, terms_length)
 
 pub returns-in-Some : goal.returns-in-Some
 returns-in-Some c =
