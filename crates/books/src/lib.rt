@@ -1,4 +1,6 @@
 //! What a constraint book is: columns and rows behind five questions.
+#![tactic(auto)]
+
 pub mod book;
 pub mod clause;
 pub mod fault;

@@ -1,4 +1,6 @@
 //! The columns of a case, each with its name.
+#![tactic(auto)]
+
 pub mod build;
 pub mod column;
 pub mod count;

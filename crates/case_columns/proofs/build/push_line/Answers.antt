@@ -7,8 +7,8 @@ use Rattle.case_columns.proofs.build.push_line.Goals as goal
 
 pub returns : goal.returns
 returns c =
-    let a = c.in-ok-push-line-front.ensures in
-    let b = c.in-ok-push-weights.ensures in
+    let a = c.in_ok-push_line_front.ensures in
+    let b = c.in_ok-push_weights.ensures in
     let price : to_z w32 (of_z w32 c.args.price) ≡ c.args.price = omega (arith, ints) in
     record {
       columns = joined (columns_in c.args.table.now) _ _ _ _ (a.columns ∙ ap (λ v. columns_in c.args.table.now ++ line_front c.args.kinds c.args.place c.args.start c.args.end v) price) b.columns;

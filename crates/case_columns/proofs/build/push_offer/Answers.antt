@@ -7,8 +7,8 @@ use Rattle.case_columns.proofs.build.push_offer.Goals as goal
 
 pub returns : goal.returns
 returns c =
-    let a = c.in-ok-push-offer-front.ensures in
-    let b = c.in-ok-push-blocks.ensures in
+    let a = c.in_ok-push_offer_front.ensures in
+    let b = c.in_ok-push_blocks.ensures in
     let price : to_z w32 (of_z w32 c.args.price) ≡ c.args.price = omega (arith, ints) in
     record {
       columns = joined (columns_in c.args.table.now) _ _ _ _ (a.columns ∙ ap (λ v. columns_in c.args.table.now ++ offer_front c.args.kinds c.args.place c.args.node v) price) b.columns;

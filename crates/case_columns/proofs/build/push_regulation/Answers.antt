@@ -7,8 +7,8 @@ use Rattle.case_columns.proofs.build.push_regulation.Goals as goal
 
 pub returns : goal.returns
 returns c =
-    let a = c.in-ok-push-regulation-front.ensures in
-    let b = c.in-ok-push-blocks.ensures in
+    let a = c.in_ok-push_regulation_front.ensures in
+    let b = c.in_ok-push_blocks.ensures in
     let price : to_z w32 (of_z w32 c.args.price) ≡ c.args.price = omega (arith, ints) in
     record {
       columns = joined (columns_in c.args.table.now) _ _ _ _ (a.columns ∙ ap (λ v. columns_in c.args.table.now ++ regulation_front c.args.place v) price) b.columns;

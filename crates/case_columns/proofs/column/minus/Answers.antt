@@ -1,4 +1,4 @@
-use Rattle.std.proofs.Common.{◌≡◌, ℕ, zero, suc, ◌-◌, ◌^◌, ◌≤◌, min, ℤ, pos, negsuc, ◌-ℤ◌, neg_ℤ, ◌≤ℤ◌, ap, ◌∙◌, arith, w32, to_z, of_z}
+use Rattle.std.proofs.Common.{◌≡◌, ℕ, zero, suc, ◌≤◌, min, ℤ, pos, negsuc, ◌-ℤ◌, neg_ℤ, ◌≤ℤ◌, ap, ◌∙◌, arith, w32, to_z, of_z}
 use Rattle.std.specs.Int.{saturate_to_bits}
 use Rattle.std.proofs.lemmas.Int.{ints}
 use Rattle.case_columns.proofs.column.minus.Goals as goal
@@ -15,8 +15,8 @@ within (negsuc n) low high = ap pos (kept (suc n) (omega (arith, ints, low)))
 pub returns : goal.returns
 returns c =
     let from : pos 0 -ℤ c.args.price ≡ neg_ℤ c.args.price = omega (arith, ints) in
-    let back : to_z w32 (of_z w32 c.saturating-sub.result) ≡ c.saturating-sub.result = omega (arith, ints) in
+    let back : to_z w32 (of_z w32 c.saturating_sub.result) ≡ c.saturating_sub.result = omega (arith, ints) in
     let price : to_z w32 (of_z w32 c.args.price) ≡ c.args.price = omega (arith, ints) in
     let high : c.args.price ≤ℤ pos 2147483647 = omega (arith, ints) in
-    let value = back ∙ c.saturating-sub.ensures ∙ ap (saturate_to_bits 31) (ap (λ v. pos 0 -ℤ v) price ∙ from) in
+    let value = back ∙ c.saturating_sub.ensures ∙ ap (saturate_to_bits 31) (ap (λ v. pos 0 -ℤ v) price ∙ from) in
     record { value = value; exact = λ low. value ∙ within c.args.price low high }

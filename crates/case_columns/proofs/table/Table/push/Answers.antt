@@ -1,9 +1,9 @@
 use Rattle.case_columns.proofs.Places.{pushed_low, pushed_placed}
 use Rattle.case_columns.proofs.table.Table.push.Goals as goal
 
-pub invariant-of-self : goal.invariant-of-self
-invariant-of-self c =
+pub invariant_of-self : goal.invariant_of-self
+invariant_of-self c =
     let e = c.push.ensures.items in
     let low = c.args.self.now.low in
     let placed = c.args.self.now.placed in
-    (pushed_low _ _ _ c.requires low placed _ _ e, (pushed_placed _ _ _ c.requires low placed _ _ e, tt))
+    record { low = pushed_low _ _ _ c.requires low placed _ _ e; placed = pushed_placed _ _ _ c.requires low placed _ _ e }

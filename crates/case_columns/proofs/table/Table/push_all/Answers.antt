@@ -8,7 +8,7 @@ push-requires c =
 
 pub loop-named-preserved : goal.loop-named-preserved
 loop-named-preserved c =
-    let got = c.in-ok-push.ensures in
+    let got = c.in_ok-push.ensures in
     (put c.args.columns.now _ _ c.loop-named.named-index _ _ c.loop-named-test.true got.columns c.loop-named.invariant.0, got.same ∙ c.loop-named.invariant.1)
 
 pub returns : goal.returns

@@ -1,4 +1,4 @@
-use Rattle.std.proofs.Common.{◌≡◌, ◌++◌, map, drop}
+use Rattle.std.proofs.Common.{◌≡◌, ◌++◌, drop}
 use Rattle.case_columns.specs.Tables.{columns_in, begun}
 use Rattle.case_columns.proofs.table.Table.push_all.Given as goal
 
