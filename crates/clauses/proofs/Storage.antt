@@ -1,5 +1,5 @@
 -- Stored rows as they grow.
-use Rattle.std.proofs.Common.{◌≡◌, ℕ, zero, suc, ◌+◌, ◌-◌, ◌<◌, ◌≤◌, Bool, true, false, cond, List, [], ◌∷◌, ◌++◌, map, length, get_or, take, drop, Some, None, sym, refl, ap, ◌∙◌, subst, inl, inr, arith}
+use Rattle.std.proofs.Common.{◌≡◌, ℕ, suc, ◌+◌, ◌-◌, ◌<◌, ◌≤◌, Bool, true, false, cond, List, [], ◌∷◌, ◌++◌, length, get_or, take, drop, Some, None, sym, refl, ap, ◌∙◌, subst, inl, inr, arith}
 use Rattle.std.proofs.lemmas.List.{map_push, length-append, length-drop, length_push, length-map, length-take-le, get_or-map, get_or-take, get_or-drop, drop-append-le, take-append-le, drop_at, take_all, get_or_append_left, get_or_push}
 use Rattle.std.specs.List.{slice_get}
 use Rattle.std.specs.Option.{option_map}

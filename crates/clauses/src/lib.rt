@@ -1,4 +1,6 @@
 //! The clauses of a case: which sums over its columns they limit, and the rows that they give.
+#![tactic(auto)]
+
 pub mod allowance;
 pub mod build;
 pub mod clause;

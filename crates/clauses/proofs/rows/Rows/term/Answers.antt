@@ -1,4 +1,4 @@
-use Rattle.std.proofs.Common.{◌≡◌, ◌+◌, ◌<◌, ◌≤◌, length, get_or, vec_items, sym, ap, ◌∙◌, arith}
+use Rattle.std.proofs.Common.{◌+◌, ◌<◌, ◌≤◌, length, get_or, vec_items, sym, ap, ◌∙◌, arith}
 use Rattle.books.specs.Lists.{term_in}
 use Rattle.clauses.specs.declared.head.Head.{Head}
 use Rattle.clauses.proofs.Storage.{no_row, term_at, no_term}
