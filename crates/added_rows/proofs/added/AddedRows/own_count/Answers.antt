@@ -1,4 +1,4 @@
-use Rattle.std.proofs.Common.{arith, rules}
+use Rattle.std.proofs.Common.{rules}
 use Rattle.books.proofs.Sounds.{sound_parts}
 use Rattle.added_rows.proofs.added.AddedRows.own_count.Goals as goal
 

@@ -1,4 +1,4 @@
-use Rattle.std.proofs.Common.{◌≡◌, sym, ap, ◌∙◌}
+use Rattle.std.proofs.Common.{sym, ap, ◌∙◌}
 use Rattle.books.specs.Lists.{term_in}
 use Rattle.added_rows.specs.Layered.{row_front, row_back}
 use Rattle.added_rows.proofs.added.answer.AddedRowsBook.term.Goals as goal
