@@ -1,6 +1,8 @@
 //! Writes the listing of the case on standard input. A case that is refused is named on standard error alone.
-use model_text::outcome::{INPUT_LIMIT, Outcome, outcome_of};
+#![tactic(auto)]
+
 use listings::bytes::listing_bytes;
+use model_text::outcome::{INPUT_LIMIT, Outcome, outcome_of};
 use std::io::{Read, Write};
 
 fn list(rt: &HostRuntime) -> anyhow::Result<()> {
