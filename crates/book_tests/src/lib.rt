@@ -1,4 +1,6 @@
 //! Tests of books: listings, the book over a case, and the text of a case.
+#![tactic(auto)]
+
 #[cfg(test)]
 mod expected;
 #[cfg(test)]
