@@ -9,8 +9,8 @@ use Rattle.std.specs.List.{AllByRecursion as All}
 use Rattle.listing_fields.specs.declared.term.Term.{Term}
 use Rattle.listing_fields.specs.Tests.{is_nought, terms_rise}
 use Rattle.books.specs.declared.part.Column.{Column}
-use Rattle.books.specs.Lists.{FullRow, Lists}
-use Rattle.books.specs.Conditions.{every, sound, sound_row}
+use Rattle.books.specs.Lists.{FullRow}
+use Rattle.books.specs.Conditions.{every, sound_row}
 use Rattle.books.specs.Schedules.{Paired, activity, MeetsColumn, MeetsRow, benefit}
 use Rattle.books.proofs.Sounds.{sound_parts, sound_row_parts}
 use Rattle.certificates.specs.Bounds.{SignFits, at_limit, row_adds, rows_add, coefficient_of, reduced_cost, K, columns_add}

@@ -1,5 +1,5 @@
 -- The checks on the numbers of a certificate, in their order, and the figure of one that passes them all.
-use Rattle.std.specs.Prelude.{◌≡◌, ℕ, suc, ◌/◌, ◌%◌, Bool, true, false, cond, not, ◌&&◌, List, [], ◌∷◌, length, ℤ, pos, negsuc, is_some, Some, None, Ok, Err, Option, Result, ◌==◌, int_le, nat_le, nat_lt, unsigned_abs}
+use Rattle.std.specs.Prelude.{◌≡◌, ℕ, suc, ◌/◌, ◌%◌, Bool, true, cond, ◌&&◌, List, [], ◌∷◌, length, ℤ, pos, negsuc, is_some, Some, None, Ok, Err, Option, Result, ◌==◌, int_le, nat_le, nat_lt, unsigned_abs}
 use Rattle.std.specs.List.{AllByRecursion as All}
 use Rattle.books.specs.declared.part.Column.{Column}
 use Rattle.books.specs.Lists.{FullRow, Lists}
