@@ -21,7 +21,7 @@ BOUND = re.compile(r"(?:\blet\s+|[({]\s*|\s)(?P<name>[a-z][A-Za-z0-9_']*(?:-[A-Z
 GOAL = re.compile(r"\b(?:goal|given|need)\.([^\s(){};,]+)")
 CLAUSE_NAME = re.compile(r"D(?:-\d+)+$")
 STD = re.compile(r"use\s+(Rattle\.std[^{;\n]*|borrow[^{;\n]*|Prim[^{;\n]*|mathlib[^{;\n]*|native[^{;\n]*|lib[^{;\n]*)\.\{([^}]*)\}")
-FIXED = {"last-tag": "tag_of_last", "getD-none": "get_or_none", "every-getD": "every_get_or"}
+FIXED = {"Too-large": "IsTooLarge", "last-tag": "tag_of_last", "getD-none": "get_or_none", "every-getD": "every_get_or"}
 
 
 def files(kind):

@@ -6,6 +6,7 @@ use Rattle.std.specs.List.{slice_get}
 use Rattle.std.proofs.lemmas.Bool.{and_parts, and_from, leb-true, le-leb, eqb-true, eq-eqb, cond-true}
 use Rattle.std.proofs.lemmas.List.{length-append, append_assoc}
 use Rattle.books.specs.Lists.{FullRow, Lists}
+use Rattle.books.specs.declared.book.Book.{Ghosts}
 use Rattle.books.specs.Conditions.{every, sound_row, sound}
 use Rattle.books.proofs.Nths.{nth_front, nth_back}
 use Rattle.books.proofs.Sounds.{sound_parts, sound_from, every_append, every_push, short}
@@ -48,7 +49,7 @@ own_short [] (suc k) = refl
 own_short (r ∷ rs) (suc k) =
     let long = terms_long r in let few = r.fits in and_from _ _ (le-leb _ 500 (omega arith)) (own_short rs k)
 
-module _ {B : Type 0} (meaning : B → Lists) (a : AddedRows B) where
+module _ {B : Type 0} {G : Ghosts B} (meaning : B → Lists) (a : AddedRows B G) where
   pub own_held : own_count meaning a ≤ length a.table.rows
   own_held =
       let most = (counts (meaning a.below) a.columns a.table.used).most in
@@ -94,7 +95,7 @@ pub record Put (rs : List AddedRow) (k : ℕ) (row : FullRow) (rs' : List AddedR
   pub rows : rs' ≡ slice_set rs k stored
   pub used : used' ≡ k + 1
 
-module _ {B : Type 0} (meaning : B → Lists) (a : AddedRows B) {n k i used' : ℕ} {row : FullRow} {rs' : List AddedRow}
+module _ {B : Type 0} {G : Ghosts B} (meaning : B → Lists) (a : AddedRows B G) {n k i used' : ℕ} {row : FullRow} {rs' : List AddedRow}
     (saw : Seen (own_count meaning a) (means meaning a) n k i) (room : k < 32) (put : Put a.table.rows k row rs' used') where
   rows_put : own_rows rs' used' ≡ own_rows a.table.rows (own_count meaning a) ++ row ∷ []
   rows_put =

@@ -1,5 +1,5 @@
-//! A case shown to a person: what becomes of an input, and the text of each record, column and row.
-pub mod model;
-pub mod name;
+//! A case shown to a person: what becomes of an input, and the text of each record.
+#![tactic(auto)]
+
 pub mod outcome;
 pub mod text;

@@ -1,7 +1,5 @@
-//! The text of a case: a line for each record, then one for each column and row.
-use crate::model::show_model;
+//! The text of a case, a line for each record.
 use crate::outcome::Outcome;
-use case_columns::count::kinds_of;
 use case_fields::part::{Blocks, Points};
 use case_fields::record::CaseRecord;
 use std::fmt;
@@ -164,7 +162,8 @@ impl fmt::Display for Numbered<'_> {
     }
 }
 
-fn show_records<W: fmt::Write>(
+/// Shows a case: a line for each record, and how many of each kind there are.
+pub fn show_case<W: fmt::Write>(
     records: &[CaseRecord<'_>],
     f: &mut fmt::Formatter<W>,
 ) -> fmt::Result {
@@ -195,14 +194,11 @@ impl fmt::Display for Outcome<'_> {
         match self {
             Outcome::InputRefused => writeln!(f, "input refused"),
             Outcome::CaseRefused(fault) => {
-                let number = fault.number();
-                let place = fault.place();
-                writeln!(f, "case refused {number} {place}")
+                let number = fault.kind.number();
+                let offset = fault.offset;
+                writeln!(f, "case refused {number} offset {offset}")
             }
-            Outcome::Case(case) => {
-                show_records(case.records.as_slice(), f)?;
-                show_model(kinds_of(&case.records), &case.book, f)
-            }
+            Outcome::Case(records) => show_case(records.as_slice(), f),
         }
     }
 }

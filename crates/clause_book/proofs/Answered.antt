@@ -25,7 +25,7 @@ use Rattle.clause_book.specs.declared.book.ClauseBook.{ClauseBook}
 use Rattle.clause_book.specs.CaseLists.{lists_of, case_lists}
 use Rattle.clause_book.specs.Books.{clause_lists, named_in}
 use Rattle.clause_book.specs.Drafting.{ranged}
-use Rattle.clause_book.specs.Opening.{BookOf, Opened, TooLarge, ToldFault, Told}
+use Rattle.clause_book.specs.Opening.{BookOf, Opened, IsTooLarge, ToldFault, Told}
 use Rattle.clause_book.proofs.Sounded.{case_sound}
 use Rattle.clause_book.proofs.Numbering.{numbered}
 
@@ -100,7 +100,7 @@ module _ (bs : List ℕ) where
   refused_reads (BadField f) h = h
 
 -- records that are a case are too many where their lists do not keep the conditions
-too_large : (bs : List ℕ) (es : List Entry) → IsFile case_format bs es → sound (case_lists es) ≡ false → TooLarge bs
+too_large : (bs : List ℕ) (es : List Entry) → IsFile case_format bs es → sound (case_lists es) ≡ false → IsTooLarge bs
 too_large bs es i h =
     record {
       entries = es;

@@ -27,7 +27,7 @@ pub record Opened (bs : List ℕ) (b : ClauseBook) : Type 0 where
   pub numbered : Numbered entries
 
 -- the bytes are a well formed case with too many columns, rows or terms
-pub record TooLarge (bs : List ℕ) : Type 0 where
+pub record IsTooLarge (bs : List ℕ) : Type 0 where
   pub entries : List Entry
   pub file : IsFile case_format bs entries
   pub many : few (case_lists entries) ≡ false
@@ -35,7 +35,7 @@ pub record TooLarge (bs : List ℕ) : Type 0 where
 -- what a refusal tells of the bytes
 abbrev pub ToldFault : List ℕ → BookFault → Type 0
 ToldFault bs (Field f) = FirstFault case_format bs f
-ToldFault bs (TooLarge n) = (n ≡ length bs) × TooLarge bs
+ToldFault bs (TooLarge n) = (n ≡ length bs) × IsTooLarge bs
 ToldFault bs (NoRoom i) = ⊥
 ToldFault bs (UnfitRow i) = ⊥
 ToldFault bs (ShortBuffer n) = ⊥

@@ -2,7 +2,6 @@
 ghost use Rattle.std.specs.Prelude.{◌≡◌};
 ghost use Rattle.std.specs.List.{slice_get};
 ghost use Rattle.clause_book.specs.Books.{clause_lists, named_in};
-ghost use Rattle.std.proofs.Common.{rules};
 
 use books::book::Book;
 use books::part::{Column, Row};
@@ -30,7 +29,7 @@ impl ClauseBook {
 impl Book for ClauseBook {
     ghost meaning = { clause_lists };
 
-    ghost kept = { Prim.search rules };
+    ghost kept = { λ b. b.book.checked };
 
     fn column_count(&self) -> usize {
         self.book.column_count()

@@ -8,14 +8,12 @@ ghost use Rattle.books.specs.Conditions.{every};
 ghost use Rattle.stored_book.specs.Drafts.{drafted};
 ghost use Rattle.case_columns.specs.declared.name.Named.{Named};
 ghost use Rattle.case_columns.specs.Tables.{columns_in};
-ghost use Rattle.clauses.specs.Wide.{book_term};
 ghost use Rattle.clauses.specs.Stored.{rows_in};
 ghost use Rattle.clause_book.specs.Drafting.{whole, with_terms, terms_in, is_term, ranged};
 
 use books::part::Row;
 use case_columns::table::Table;
 use clauses::rows::Rows;
-use clauses::wide::WideTerm;
 use listing_fields::term::Term;
 use std::alloc::{AllocError, Global};
 use stored_book::draft::Draft;
@@ -33,17 +31,11 @@ fn draft_columns(heap: Global, table: &Table) -> Result<Draft, AllocError>
     Ok(draft)
 }
 
-/// A term as a book has it, or none if it is out of range.
-fn narrow(wide: WideTerm) -> Option<Term>
-    ensures { MatchOption result (is_term (book_term wide) ≡ false) (λ t. t ≡ book_term wide) }
+/// Whether a term is in range; its column is in any case.
+fn is_in_range(term: Term) -> bool
+    ensures { result ≡ is_term term }
 {
-    if wide.column > 65_535 || wide.coefficient < -1_000_000 || wide.coefficient > 1_000_000 {
-        return None;
-    }
-    Some(Term {
-        column: wide.column as u16,
-        coefficient: wide.coefficient as i32,
-    })
+    -1_000_000 <= term.coefficient && term.coefficient <= 1_000_000
 }
 
 /// Adds the terms of a row to the row that is being built; false if one is out of range.
@@ -53,10 +45,10 @@ fn add_terms(draft: &mut Draft, rows: &Rows, i: usize) -> Result<bool, AllocErro
         (terms_in_range (terms_in (slice_get (rows_in rows.now) i)) ≡ false)) }
 {
     let mut k: usize = 0;
-    while let Some(wide) = rows.term(i, k) {
-        let Some(term) = narrow(wide) else {
+    while let Some(term) = rows.term(i, k) {
+        if !is_in_range(term) {
             return Ok(false);
-        };
+        }
         draft.push_term(term)?;
         k += 1;
     }

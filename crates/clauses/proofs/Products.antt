@@ -1,5 +1,5 @@
 -- A product of two numbers of 32 bits.
-use Rattle.std.proofs.Common.{◌≡◌, ℕ, suc, ◌*◌, ◌≤◌, ℤ, pos, negsuc, ◌*ℤ◌, neg_ℤ, ◌≤ℤ◌, sym, ◌∙◌, subst, mul-le-mul, arith, w64, to_z, of_z}
+use Rattle.std.proofs.Common.{◌≡◌, ℕ, suc, ◌≤◌, ℤ, pos, negsuc, ◌*ℤ◌, neg_ℤ, ◌≤ℤ◌, sym, ◌∙◌, subst, mul-le-mul, arith, w64, to_z, of_z}
 use Rattle.std.proofs.lemmas.Int.{ints}
 
 pub record Near (z : ℤ) (b : ℕ) : Type 0 where

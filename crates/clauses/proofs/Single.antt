@@ -1,6 +1,6 @@
 -- A row and what its clause says of the named quantities.
-use Rattle.std.proofs.Common.{◌≡◌, ℕ, suc, Bool, true, false, eqb, List, [], ◌∷◌, map, get_or, ℤ, pos, negsuc, ◌+ℤ◌, ◌*ℤ◌, neg_ℤ, sym, refl, ap, ◌∙◌, arith, true-eqb}
-use borrow.Author.Differences.{same_in, sum_is_lem, product_is}
+use Rattle.std.proofs.Common.{◌≡◌, ℕ, suc, Bool, true, false, List, [], ◌∷◌, map, get_or, ℤ, pos, negsuc, ◌+ℤ◌, ◌*ℤ◌, neg_ℤ, sym, refl, ap, ◌∙◌, arith, true-eqb}
+use borrow.Author.Differences.{same_in, product_is}
 use Rattle.case_columns.specs.declared.name.Named.{Named}
 use Rattle.listing_fields.specs.declared.term.Term.{Term}
 use Rattle.clauses.specs.declared.sum.Pick.{Pick}
@@ -8,9 +8,9 @@ use Rattle.clauses.specs.declared.sum.Item.{Item}
 use Rattle.clauses.specs.Sums.{picks, when, amount, sum}
 use Rattle.books.specs.Lists.{FullRow}
 use Rattle.clauses.specs.Rows.{Clause, row_of}
-use Rattle.clauses.specs.Terms.{nought, kept, terms, terms_from}
+use Rattle.clauses.specs.Terms.{nought, kept, terms_from}
 use Rattle.books.specs.Schedules.{activity, MeetsRow}
-use Rattle.clauses.specs.Singly.{weighed, worth, worths, total, Holds, Singly}
+use Rattle.clauses.specs.Singly.{weighed, worth, worths, Holds, Singly}
 use Rattle.books.proofs.Integers.{linear, add_times, times_add, times_assoc}
 
 zero_times : (z : ℤ) → pos 0 *ℤ z ≡ pos 0

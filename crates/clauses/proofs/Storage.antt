@@ -8,8 +8,6 @@ use Rattle.std.proofs.lemmas.Bool.{cases_lt}
 use Rattle.listing_fields.specs.declared.term.Term.{Term}
 use Rattle.books.specs.Lists.{head, term_in}
 use Rattle.clauses.specs.declared.head.Head.{Head}
-use Rattle.clauses.specs.declared.wide.WideTerm.{WideTerm}
-use Rattle.clauses.specs.Wide.{book_term, book_terms}
 use Rattle.clauses.specs.Rows.{stored, stored_rows, Inside}
 
 inside_part : (ts us : List Term) (s n : ℕ) → s + n ≤ length ts → take n (drop s (ts ++ us)) ≡ take n (drop s ts)
@@ -36,10 +34,10 @@ row_pushed hs ts vs us h ks w e s n k =
     ∙ (λ i. (ap (stored_rows hs) e ∙ rows_stay hs ts us w) i ++ (record { code = h.code; lower = h.lower; upper = h.upper; terms = mine i }) ∷ [])
 
 -- terms added, no row
-pub inside_grows : {X : Type 0} (hs : List Head) (ts vs : List X) → Inside hs ts → length ts ≤ length vs → Inside hs vs
+pub inside_grows : (hs : List Head) (ts vs : List Term) → Inside hs ts → length ts ≤ length vs → Inside hs vs
 inside_grows hs ts vs w h i d b = omega (arith, w i d b)
 
-pub inside_pushed : {X : Type 0} (b : Bool) (hs ks : List Head) (ts : List X) (h : Head) → Inside hs ts → h.start + h.count ≤ length ts → ks ≡ cond b (hs ++ h ∷ []) hs → Inside ks ts
+pub inside_pushed : (b : Bool) (hs ks : List Head) (ts : List Term) (h : Head) → Inside hs ts → h.start + h.count ≤ length ts → ks ≡ cond b (hs ++ h ∷ []) hs → Inside ks ts
 inside_pushed false hs ks ts h w f e = subst (λ (l : List Head). Inside l ts) (sym e) w
 inside_pushed true hs ks ts h w f e =
     subst (λ (l : List Head). Inside l ts) (sym e)
@@ -47,10 +45,6 @@ inside_pushed true hs ks ts h w f e =
       | inl k ↦ let q = get_or_append_left hs (h ∷ []) d i k in omega (arith, w i d k, ap (λ (x : Head). x.start + x.count) q)
       | inr k ↦ let q : length hs ≡ i = omega (arith, k, b, length_push hs h) in omega (arith, f, ap (λ (x : Head). x.start + x.count) (get_or_push hs h d i q))
     ])
-
--- terms of any size are as many as those of a book
-pub inside_book : (hs : List Head) (ws : List WideTerm) → Inside hs ws → Inside hs (book_terms ws)
-inside_book hs ws w i d b = omega (arith, w i d b, length-map ws book_term)
 
 -- the row at a place, and its terms
 module _ (hs : List Head) (ts : List Term) (i : ℕ) where

@@ -1,8 +1,8 @@
 -- The terms from a column on.
-use Rattle.std.proofs.Common.{◌≡◌, ℕ, zero, suc, ◌+◌, ◌-◌, ◌<◌, ◌≤◌, Bool, true, false, eqb, List, [], ◌∷◌, ◌++◌, length, get_or, drop, ℤ, pos, negsuc, sym, refl, ap, ◌∙◌, subst, append_assoc, arith, ne_eqb, eqb-true}
+use Rattle.std.proofs.Common.{◌≡◌, ℕ, zero, suc, ◌+◌, ◌-◌, ◌<◌, ◌≤◌, false, List, [], ◌∷◌, ◌++◌, length, get_or, drop, ℤ, pos, negsuc, sym, refl, ap, ◌∙◌, append_assoc, arith, ne_eqb}
 use Rattle.std.proofs.lemmas.List.{drop_more, drop_all, append-nil}
 use Rattle.listing_fields.specs.declared.term.Term.{Term}
-use Rattle.clauses.specs.Terms.{nought, kept, terms_from, terms}
+use Rattle.clauses.specs.Terms.{nought, kept, terms_from}
 
 some : {X : Type 0} (xs : List X) → 0 < length xs → X
 some [] h = absurd (omega arith)

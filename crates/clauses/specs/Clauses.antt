@@ -1,6 +1,6 @@
 -- The clauses of a case, one definition for each, as the rule book writes them.
-use Rattle.std.specs.Prelude.{ℕ, ◌+◌, List, [], ◌∷◌, ◌++◌, map, ℤ, pos, ◌+ℤ◌, ◌-ℤ◌, ◌*ℤ◌, Some, None, Option}
-use Rattle.case_fields.specs.Entries.{Node, Line, EnergyOffer, Bid, RegulationOffer, Requirement, Entry}
+use Rattle.std.specs.Prelude.{ℕ, ◌+◌, List, [], ◌∷◌, ◌++◌, ℤ, pos, ◌+ℤ◌, ◌-ℤ◌, ◌*ℤ◌, Some, None, Option}
+use Rattle.case_fields.specs.Entries.{Entry}
 use Rattle.case_fields.specs.Entries.Entry.{period, node, line, energy_offer, bid, regulation_offer, requirement}
 use Rattle.case_fields.specs.Tests.{minus}
 use Rattle.case_columns.specs.declared.name.Quantity.{Quantity}

@@ -1,6 +1,5 @@
 pub mod Sums
 pub mod Terms
-pub mod Wide
 pub mod Rows
 pub mod Stored
 pub mod Settings

@@ -44,5 +44,5 @@ abbrev pub stored_rows : List Head → List Term → List FullRow
 stored_rows hs ts = map (stored ts) hs
 
 -- each row's terms stand in the list
-abbrev pub Inside : {X : Type 0} → List Head → List X → Type 0
+abbrev pub Inside : List Head → List Term → Type 0
 Inside hs ts = (i : ℕ) (d : Head) → i < length hs → (slice_index_or hs i d).start + (slice_index_or hs i d).count ≤ length ts

@@ -165,6 +165,8 @@ fn record_rows(
 }
 
 /// The rows of a case over the columns of a table, in file order.
+/// Besides for want of memory it is refused where the number of a column has more than 16 bits or a coefficient more than 32,
+/// which no case brings about that has its numbers in range and at most 4,000 columns.
 pub fn rows_of(heap: Global, records: &[CaseRecord<'_>], table: &Table) -> Result<Rows, AllocError>
     ensures rows { IfOk result (λ rs. rows_in rs ≡ map (row_of (columns_in table.now)) (clauses (map meant records.now))) }
     ensures singly { IfOk result (λ rs. Singly (columns_in table.now) (clauses (map meant records.now)) (rows_in rs)) }

@@ -1,9 +1,12 @@
 //! The clauses of a case: which sums over its columns they limit, and the rows that they give.
+#![tactic(auto)]
+
 pub mod allowance;
 pub mod build;
 pub mod clause;
 pub mod head;
 pub mod item;
+pub mod lists;
 pub mod product;
 pub mod rows;
 pub mod setting;
@@ -11,4 +14,3 @@ pub mod side;
 pub mod sum;
 pub mod walk;
 pub mod weigh;
-pub mod wide;

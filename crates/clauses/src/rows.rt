@@ -2,13 +2,13 @@
 ghost use Rattle.clauses.specs.Rows.{Inside};
 
 use crate::head::Head;
-use crate::wide::WideTerm;
+use listing_fields::term::Term;
 
 /// The rows of a case, in order.
 #[derive(Drop)]
 pub struct Rows {
     heads: Vec<Head>,
-    terms: Vec<WideTerm>,
+    terms: Vec<Term>,
     ghost inside: { Inside heads.items terms.items },
 }
 

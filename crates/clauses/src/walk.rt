@@ -2,14 +2,13 @@
 ghost use Rattle.std.specs.Prelude.{◌≡◌, ℕ, ◌<◌, ◌≤◌, [], ◌∷◌, ◌++◌, length, pos, OnOk, slice_index_or};
 ghost use Rattle.case_columns.specs.Tables.{columns_in};
 ghost use Rattle.case_columns.specs.declared.name.Named.{Named as ANamed};
-ghost use Rattle.clauses.specs.Wide.{book_terms};
 ghost use Rattle.clauses.specs.Sums.{sum as summed};
 ghost use Rattle.clauses.specs.Terms.{terms};
 
 use crate::sum::Item;
 use crate::weigh::coefficient as coefficient_of;
-use crate::wide::WideTerm;
 use case_columns::table::Table;
+use listing_fields::term::Term;
 use std::alloc::AllocError;
 
 /// From a column on, the first that can have a coefficient.
@@ -29,14 +28,17 @@ fn next_in(table: &Table, items: &[Item], from: usize) -> usize
     best
 }
 
-/// Adds a term.
-fn push_term(column: usize, coefficient: i64, out: &mut Vec<WideTerm>) -> Result<(), AllocError>
+/// Adds a term, or refuses one whose column or coefficient is beyond what a term holds.
+fn push_term(column: usize, coefficient: i64, out: &mut Vec<Term>) -> Result<(), AllocError>
     ensures grows { length out.old.items ≤ length out.new.items }
-    ensures added { OnOk result (book_terms out.new.items ≡ book_terms out.old.items ++ record { column = column; coefficient = coefficient } ∷ []) }
+    ensures added { OnOk result (out.new.items ≡ out.old.items ++ record { column = column; coefficient = coefficient } ∷ []) }
 {
-    out.push(WideTerm {
-        column,
-        coefficient,
+    if column > 65_535 || coefficient < -2_147_483_648 || coefficient > 2_147_483_647 {
+        return Err(AllocError);
+    }
+    out.push(Term {
+        column: column as u16,
+        coefficient: coefficient as i32,
     })?;
     Ok(())
 }
@@ -45,11 +47,11 @@ fn push_term(column: usize, coefficient: i64, out: &mut Vec<WideTerm>) -> Result
 pub(crate) fn push_terms(
     table: &Table,
     items: &[Item],
-    out: &mut Vec<WideTerm>,
+    out: &mut Vec<Term>,
 ) -> Result<(), AllocError>
     requires { length items.now ≤ 8 }
     ensures grows { length out.old.items ≤ length out.new.items }
-    ensures listed { OnOk result (book_terms out.new.items ≡ book_terms out.old.items ++ terms (summed items.now) (columns_in table.now)) }
+    ensures listed { OnOk result (out.new.items ≡ out.old.items ++ terms (summed items.now) (columns_in table.now)) }
 {
     let mut at = next_in(table, items, 0);
     while let Some(named) = table.get(at) {

@@ -1,4 +1,6 @@
 //! Shows the case on standard input, a line for each record.
+#![tactic(auto)]
+
 use case_text::outcome::{INPUT_LIMIT, outcome_of};
 use std::io::Read;
 

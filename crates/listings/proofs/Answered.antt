@@ -18,7 +18,7 @@ use Rattle.books.specs.Conditions.{few, sound}
 use Rattle.listings.specs.declared.book.ListedBook.{ListedBook}
 use Rattle.listings.specs.Books.{listed_lists}
 use Rattle.listings.specs.Listed.{entries, listing_of, given}
-use Rattle.listings.specs.Reading.{TooLarge, ToldFault, Told}
+use Rattle.listings.specs.Reading.{IsTooLarge, ToldFault, Told}
 use Rattle.listings.proofs.Fews.{sound_few}
 use Rattle.listings.proofs.Laws.{listing_file, entries_one, file_given, file_sound}
 
@@ -78,7 +78,7 @@ module _ (bs : List ℕ) where
   refused_reads (BadField f) h = h
 
 -- fields that are a file are too many where the lists that they give are not sound
-too_large : (bs : List ℕ) (es : List Entry) → IsFile listing_format bs es → sound (given es) ≡ false → TooLarge bs
+too_large : (bs : List ℕ) (es : List Entry) → IsFile listing_format bs es → sound (given es) ≡ false → IsTooLarge bs
 too_large bs es i h =
     record {
       lists = given es;

@@ -22,7 +22,7 @@ abbrev pub gathered : List Entry → Drafted
 gathered es = record { lists = given es; begun = [] }
 
 -- the bytes are the listing of lists with too many columns, rows or terms
-pub record TooLarge (bs : List ℕ) : Type 0 where
+pub record IsTooLarge (bs : List ℕ) : Type 0 where
   pub lists : Lists
   pub file : IsFile listing_format bs (entries lists)
   pub many : few lists ≡ false
@@ -30,7 +30,7 @@ pub record TooLarge (bs : List ℕ) : Type 0 where
 -- what a refusal tells of the bytes
 abbrev pub ToldFault : List ℕ → BookFault → Type 0
 ToldFault bs (Field f) = FirstFault listing_format bs f
-ToldFault bs (TooLarge n) = (n ≡ length bs) × TooLarge bs
+ToldFault bs (TooLarge n) = (n ≡ length bs) × IsTooLarge bs
 ToldFault bs (NoRoom i) = ⊥
 ToldFault bs (UnfitRow i) = ⊥
 ToldFault bs (ShortBuffer n) = ⊥

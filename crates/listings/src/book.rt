@@ -1,6 +1,5 @@
 //! A book that was read from a listing.
 ghost use Rattle.listings.specs.Books.{listed_lists};
-ghost use Rattle.std.proofs.Common.{rules};
 
 use books::book::Book;
 use books::part::{Column, Row};
@@ -16,7 +15,7 @@ pub struct ListedBook {
 impl Book for ListedBook {
     ghost meaning = { listed_lists };
 
-    ghost kept = { Prim.search rules };
+    ghost kept = { λ b. b.book.checked };
 
     fn column_count(&self) -> usize {
         self.book.column_count()

@@ -1,4 +1,6 @@
 //! Listings: a book written as bytes, and read again.
+#![tactic(auto)]
+
 pub mod book;
 pub mod bytes;
 mod gather;

@@ -2,7 +2,7 @@
 ghost use Rattle.std.specs.Prelude.{◌≡◌, IfOk, Some, string_bytes};
 ghost use Rattle.docket.specs.Runs.{laid_by};
 ghost use Rattle.docket.specs.declared.verdict.Verdict.TheVariants.{Refused};
-ghost use Rattle.verdict_text.specs.Texts.{figure_text, label_text, place_text as place-words, clause_text, verdict_text, kind_text, line_text, labelled_text, standing_text};
+ghost use Rattle.verdict_text.specs.Texts.{figure_text, label_text, place_text as place_words, clause_text, verdict_text, kind_text, line_text, labelled_text, standing_text};
 
 use books::clause::clause_of;
 use books::part::Place;
@@ -35,7 +35,7 @@ fn label_words(heap: Global, label: Option<u32>) -> Result<String, AllocError>
 
 /// A place.
 pub fn place_text(heap: Global, place: Place) -> Result<String, AllocError>
-    ensures { IfOk result (λ s. string_bytes s ≡ place-words place) }
+    ensures { IfOk result (λ s. string_bytes s ≡ place_words place) }
 {
     match place {
         Place::Offset(n) => format!(in heap; "offset {n}"),

@@ -3,12 +3,11 @@ ghost use Rattle.std.specs.Prelude.{◌≡◌, length};
 ghost use Rattle.std.specs.List.{slice_get};
 ghost use Rattle.std.specs.Option.{option_map};
 ghost use Rattle.books.specs.Lists.{head as head_of, term_in};
-ghost use Rattle.clauses.specs.Wide.{book_term};
 ghost use Rattle.clauses.specs.Stored.{rows_in};
 
 use crate::rows::Rows;
-use crate::wide::WideTerm;
 use books::part::Row;
+use listing_fields::term::Term;
 
 impl Rows {
     /// How many rows there are.
@@ -35,8 +34,8 @@ impl Rows {
     }
 
     /// A term of a row, or none past the row's terms and past the end.
-    pub fn term(&self, i: usize, k: usize) -> Option<WideTerm>
-        ensures { option_map book_term result ≡ term_in (slice_get (rows_in self.now) i) k }
+    pub fn term(&self, i: usize, k: usize) -> Option<Term>
+        ensures { result ≡ term_in (slice_get (rows_in self.now) i) k }
     {
         if i >= self.heads.len() {
             return None;

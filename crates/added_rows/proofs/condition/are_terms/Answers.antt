@@ -11,13 +11,13 @@ turn : (n least : ℕ) (ts : List Term) (i : ℕ) (d : Term) (r : Bool) → i < 
 turn n least ts i d r h e =
     at_drop_more (terms_from n least) ts i d h ∙ terms_from_more n least (get_or ts i d) (drop (i + 1) ts) ∙ ap (λ b. b && terms_from n ((get_or ts i d).column + 1) (drop (i + 1) ts)) (sym e)
 
-pub returns-then-not-is-next : goal.returns-then-not-is-next
-returns-then-not-is-next c =
-    sym (c.loop-term.invariant ∙ turn c.args.columns c.loop-term.least c.args.terms.now c.loop-term.term-index _ _ c.loop-term-test.true c.if-not-is-next.ensures)
+pub returns-then-not-is_next : goal.returns-then-not-is_next
+returns-then-not-is_next c =
+    sym (c.loop-term.invariant ∙ turn c.args.columns c.loop-term.least c.args.terms.now c.loop-term.term-index _ _ c.loop-term-test.true c.if-not-is_next.ensures)
 
 pub loop-term-preserved : goal.loop-term-preserved
 loop-term-preserved c =
-    c.loop-term.invariant ∙ turn c.args.columns c.loop-term.least c.args.terms.now c.loop-term.term-index _ _ c.loop-term-test.true c.if-not-is-next.ensures
+    c.loop-term.invariant ∙ turn c.args.columns c.loop-term.least c.args.terms.now c.loop-term.term-index _ _ c.loop-term-test.true c.if-not-is_next.ensures
 
 pub returns : goal.returns
 returns c =

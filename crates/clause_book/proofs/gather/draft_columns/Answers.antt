@@ -16,12 +16,12 @@ pub loop-named-preserved : goal.loop-named-preserved
 loop-named-preserved c =
     let cs = columns_in c.args.table.now in
     let here = sym c.in-Some.ensures in (
-      c.in-ok-push-column.ensures ∙ ap (with_column c.in-Some.named.column) c.loop-named.invariant.0 ∙ column_added cs c.loop-named.j c.in-Some.named here,
+      c.in_ok-push_column.ensures ∙ ap (with_column c.in-Some.named.column) c.loop-named.invariant.0 ∙ column_added cs c.loop-named.j c.in-Some.named here,
       omega (arith, some_within cs c.loop-named.j c.in-Some.named here),
     )
 
 pub returns : goal.returns
 returns c =
     let cs = columns_in c.args.table.now in
-    let all = take_all c.loop-named.j cs (none_past cs c.loop-named.j (sym c.in-default.ensures)) in
+    let all = take_all c.loop-named.j cs (none_past cs c.loop-named.j (sym c.in_default.ensures)) in
     c.loop-named.invariant.0 ∙ ap (λ l. whole (map (λ (n : Named). n.column) l) []) all

@@ -13,7 +13,7 @@ more rs i d o h e =
 
 pub loop-given-preserved : goal.loop-given-preserved
 loop-given-preserved c =
-    c.loop-given.invariant ∙ more c.args.records.now c.loop-given.given-index _ _ c.loop-given-test.true c.in-default.ensures
+    c.loop-given.invariant ∙ more c.args.records.now c.loop-given.given-index _ _ c.loop-given-test.true c.in_default.ensures
 
 pub returns-in-Some : goal.returns-in-Some
 returns-in-Some c =

@@ -11,6 +11,6 @@ returns c =
     let admittance : to_z w32 (of_z w32 c.args.admittance) ≡ c.args.admittance = omega (arith, ints) in
     let shift : to_z w32 (of_z w32 c.args.shift) ≡ c.args.shift = omega (arith, ints) in
     let s = c.args.setting in
-    let limits = exact (λ v. limit_clauses s v c.args.reverse_limit) forward_limit (exact (λ v. limit_clauses s (to_z w32 (of_z w32 c.args.forward_limit)) v) reverse_limit c.in-ok-limit-rows.ensures) in
-    let angles = exact (λ v. d_16_2_3 s c.args.start c.args.end v c.args.shift ∷ []) admittance (exact (λ v. d_16_2_3 s c.args.start c.args.end (to_z w32 (of_z w32 c.args.admittance)) v ∷ []) shift c.in-ok-d-16-2-3.ensures) in
-    both (both limits angles) c.in-ok-loss-rows.ensures
+    let limits = exact (λ v. limit_clauses s v c.args.reverse_limit) forward_limit (exact (λ v. limit_clauses s (to_z w32 (of_z w32 c.args.forward_limit)) v) reverse_limit c.in_ok-limit_rows.ensures) in
+    let angles = exact (λ v. d_16_2_3 s c.args.start c.args.end v c.args.shift ∷ []) admittance (exact (λ v. d_16_2_3 s c.args.start c.args.end (to_z w32 (of_z w32 c.args.admittance)) v ∷ []) shift c.in_ok-d_16_2_3.ensures) in
+    both (both limits angles) c.in_ok-loss_rows.ensures

@@ -9,4 +9,4 @@ returns c =
     let end_minimum : to_z w32 (of_z w32 c.args.end_minimum) ≡ c.args.end_minimum = omega (arith, ints) in
     let end_maximum : to_z w32 (of_z w32 c.args.end_maximum) ≡ c.args.end_maximum = omega (arith, ints) in
     let s = c.args.setting in
-    both (both c.in-ok-d-15-1-2.ensures (exact (λ v. d_19_1_1 s v ∷ []) end_maximum c.in-ok-d-19-1-1.ensures)) (exact (λ v. d_19_1_2 s v ∷ []) end_minimum c.in-ok-d-19-1-2.ensures)
+    both (both c.in_ok-d_15_1_2.ensures (exact (λ v. d_19_1_1 s v ∷ []) end_maximum c.in_ok-d_19_1_1.ensures)) (exact (λ v. d_19_1_2 s v ∷ []) end_minimum c.in_ok-d_19_1_2.ensures)

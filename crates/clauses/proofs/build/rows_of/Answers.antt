@@ -18,9 +18,9 @@ pub loop-place-preserved : goal.loop-place-preserved
 loop-place-preserved c =
     let rs = c.args.records.now in
     let row = row_of (columns_in c.args.table.now) in
-    let k = c.kinds-of-kinds.ensures.value in
-    let a : to_z w32 (of_z w32 c.allowance-of-allowance.result) ≡ c.allowance-of-allowance.result = omega (arith, ints) in
-    given (λ (m : Common) r e. map row (clauses_of m r e)) (common (map meant rs)) meant rs c.loop-place.place _ _ _ _ _ _ c.loop-place-test.true (λ i. record { kinds = k i; allowance = (a ∙ c.allowance-of-allowance.ensures) i }) refl c.in-ok-record-rows.ensures.rows c.loop-place.invariant
+    let k = c.kinds_of-kinds.ensures.value in
+    let a : to_z w32 (of_z w32 c.allowance_of-allowance.result) ≡ c.allowance_of-allowance.result = omega (arith, ints) in
+    given (λ (m : Common) r e. map row (clauses_of m r e)) (common (map meant rs)) meant rs c.loop-place.place _ _ _ _ _ _ c.loop-place-test.true (λ i. record { kinds = k i; allowance = (a ∙ c.allowance_of-allowance.ensures) i }) refl c.in_ok-record_rows.ensures.rows c.loop-place.invariant
 
 pub returns : goal.returns
 returns c =

@@ -9,8 +9,8 @@ loop-item-init c = (omega arith, omega arith, λ i d from below. refl)
 pub loop-item-preserved : goal.loop-item-preserved
 loop-item-preserved c =
     let inv = c.loop-item.invariant in
-    let got = c.next-among-next.ensures in
-    let low : c.args.from ≤ c.next-among-next.result = got.low c.requires in
+    let got = c.next_among-next.ensures in
+    let low : c.args.from ≤ c.next_among-next.result = got.low c.requires in
     elim c.if-next-best.branch [
       | then-next-best w ↦ (omega (arith, w.best-is), omega (arith, w.best-is), λ i d from below. inv.2 i d from (omega (arith, w.best-is)) ∙ coefficient_skips c.args.items.now c.loop-item.item-index _ _ c.loop-item-test.true (got.skips i d from (omega (arith, w.best-is))))
       | else-next-best w ↦ (omega (arith, w.best-is), omega (arith, w.best-is), λ i d from below. inv.2 i d from (omega (arith, w.best-is)) ∙ coefficient_skips c.args.items.now c.loop-item.item-index _ _ c.loop-item-test.true (got.skips i d from (omega (arith, w.best-is))))

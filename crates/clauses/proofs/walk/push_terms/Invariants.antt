@@ -1,6 +1,5 @@
 use Rattle.std.proofs.Common.{◌≡◌, ◌-◌, ◌≤◌, ◌++◌, length, drop, vec_items}
 use Rattle.case_columns.specs.Tables.{columns_in}
-use Rattle.clauses.specs.Wide.{book_terms}
 use Rattle.clauses.specs.Sums.{sum}
 use Rattle.clauses.specs.Terms.{terms, terms_from}
 use Rattle.clauses.proofs.walk.push_terms.Given as goal
@@ -9,7 +8,7 @@ use Rattle.clauses.proofs.walk.push_terms.Given as goal
 abbrev pub invariant-loop-named : goal.invariant-loop-named
 invariant-loop-named l =
     (l.at ≤ length (columns_in l.table))
-    × (book_terms (vec_items l.initial.out) ++ terms (sum l.items) (columns_in l.table) ≡ book_terms (vec_items l.out) ++ terms_from l.at (sum l.items) (drop l.at (columns_in l.table)))
+    × (vec_items l.initial.out ++ terms (sum l.items) (columns_in l.table) ≡ vec_items l.out ++ terms_from l.at (sum l.items) (drop l.at (columns_in l.table)))
     × (length (vec_items l.initial.out) ≤ length (vec_items l.out))
 
 abbrev pub decreases-loop-named : goal.decreases-loop-named

@@ -1,4 +1,4 @@
-use Rattle.std.proofs.Common.{◌≡◌, ℕ, ◌≤◌, List, [], ◌++◌, length, take, drop, ap, ◌∙◌, append-nil, arith, drop_of_length-le, take_all}
+use Rattle.std.proofs.Common.{◌≡◌, ℕ, ◌≤◌, List, ◌++◌, length, take, drop, ap, ◌∙◌, append-nil, arith, drop_of_length-le, take_all}
 use lib.Seq.{take-append-le}
 use Rattle.listings.specs.Listed.{listing_of}
 use Rattle.listings.proofs.bytes.listing_bytes.Goals as goal
@@ -17,5 +17,5 @@ pub returns-in-Ok : goal.returns-in-Ok
 returns-in-Ok g c =
     let bs = listing_of (g.B.Book.meaning c.args.book.now) in
     let w = c.in-Ok.ensures in
-    let same : c.in-ok-bytes.bytes.len ≡ length bs = c.in-ok-bytes.ensures.len ∙ c.listing_length.ensures in
-    whole c.in-ok-bytes.bytes.len c.in-Ok.field-0 bs c.deref-mut.result.now c.write-listing.new.out c.in-ok-bytes.bytes.items c.deref-mut.ensures.len same w.0 w.2
+    let same : c.in_ok-bytes.bytes.len ≡ length bs = c.in_ok-bytes.ensures.len ∙ c.listing_length.ensures in
+    whole c.in_ok-bytes.bytes.len c.in-Ok.field-0 bs c.deref_mut.result.now c.write_listing.new.out c.in_ok-bytes.bytes.items c.deref_mut.ensures.len same w.0 w.2

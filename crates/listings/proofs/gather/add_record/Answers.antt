@@ -17,7 +17,7 @@ returns-in-Column c =
     let fl : SFits w32 i.lower = search rules in
     let fu : SFits w32 i.upper = search rules in
     let fp : SFits w32 i.price = search rules in
-    MatchResult-weaker c.push-column.result c.push-column.ensures
+    MatchResult-weaker c.push_column.result c.push_column.ensures
     (λ _ added. column_added _ column (meant c.args.next) (λ j. record { lower = to_z-of_z w32 i.lower fl j; upper = to_z-of_z w32 i.upper fu j; price = to_z-of_z w32 i.price fp j; switch = i.switch }) (ap meant i.is) added)
     (λ _ _. tt)
 
@@ -25,6 +25,6 @@ pub returns-in-Row : goal.returns-in-Row
 returns-in-Row c =
     let i = c.in-Row in
     let full : FullRow = record { code = i.code; lower = i.lower; upper = i.upper; terms = terms_in i.terms.bytes.now } in
-    MatchResult-weaker c.add-row.result c.add-row.ensures
+    MatchResult-weaker c.add_row.result c.add_row.ensures
     (λ _ added es h. added ∙ ap (λ d. with_row i.code i.lower i.upper (with_terms full.terms d)) h ∙ row_gathered es full ∙ ap (λ n. gathered (es ++ meant n ∷ [])) (sym i.is))
     (λ _ _. tt)

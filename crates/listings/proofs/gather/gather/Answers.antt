@@ -7,7 +7,7 @@ use Rattle.listings.proofs.gather.gather.Goals as goal
 pub loop-next-preserved : goal.loop-next-preserved
 loop-next-preserved c =
     let records = c.args.records.now in
-    c.in-ok-add-record.ensures (map meant (take c.loop-next.next-index records)) c.loop-next.invariant
+    c.in_ok-add_record.ensures (map meant (take c.loop-next.next-index records)) c.loop-next.invariant
     ∙ ap gathered (sym (map_more meant records c.loop-next.next-index _ c.loop-next-test.true))
 
 pub returns : goal.returns

@@ -8,5 +8,5 @@ pub returns : goal.returns
 unfolding four signed_four
 returns c =
     let fits : SFits w32 c.args.number = search rules in
-    wrote_same c.to-be-bytes.result (signed_four c.args.number)
-    (c.to-be-bytes.ensures ∙ ap signed_four (to_z-of_z w32 c.args.number fits)) c.put.ensures
+    wrote_same c.to_be_bytes.result (signed_four c.args.number)
+    (c.to_be_bytes.ensures ∙ ap signed_four (to_z-of_z w32 c.args.number fits)) c.put.ensures

@@ -7,32 +7,32 @@ use Rattle.books.proofs.Nths.{some_within, none_past}
 use Rattle.listings.proofs.Runs.{joined_next}
 use Rattle.listings.proofs.write.listing_length.Goals as goal
 
-pub overflow-mul-length : goal.overflow-mul-length
-overflow-mul-length g c =
+pub overflow_mul-length : goal.overflow_mul-length
+overflow_mul-length g c =
     let few = kept (g.B.Book.meaning c.args.book.now) (g.met.B.Book.kept c.args.book.now) in
-    record { fits = omega (arith, few.columns, c.column-count-length.ensures) }
+    record { fits = omega (arith, few.columns, c.column_count-length.ensures) }
 
-pub overflow-mul-length-in-Some : goal.overflow-mul-length-in-Some
-overflow-mul-length-in-Some g c =
+pub overflow_mul-length-in-Some : goal.overflow_mul-length-in-Some
+overflow_mul-length-in-Some g c =
     let b = g.B.Book.meaning c.args.book.now in
     let f = found b c.loop-row.i c.in-Some.row c.in-Some.ensures in
     record { fits = omega (arith, kept_terms b c.loop-row.i (g.met.B.Book.kept c.args.book.now), found_terms f) }
 
-pub overflow-add-length : goal.overflow-add-length
-overflow-add-length g c =
+pub overflow_add-length : goal.overflow_add-length
+overflow_add-length g c =
     let b = g.B.Book.meaning c.args.book.now in
     let f = found b c.loop-row.i c.in-Some.row c.in-Some.ensures in
     record { fits = omega (arith, kept_terms b c.loop-row.i (g.met.B.Book.kept c.args.book.now), found_terms f) }
 
-pub overflow-add-length-in-Some : goal.overflow-add-length-in-Some
-overflow-add-length-in-Some g c =
+pub overflow_add-length-in-Some : goal.overflow_add-length-in-Some
+overflow_add-length-in-Some g c =
     let b = g.B.Book.meaning c.args.book.now in
     let sound = g.met.B.Book.kept c.args.book.now in
     let f = found b c.loop-row.i c.in-Some.row c.in-Some.ensures in
     record { fits = omega (arith, c.loop-row.invariant.0, front_most b c.loop-row.i sound, (kept b sound).columns, kept_terms b c.loop-row.i sound, found_terms f) }
 
-pub overflow-add-i : goal.overflow-add-i
-overflow-add-i g c =
+pub overflow_add-i : goal.overflow_add-i
+overflow_add-i g c =
     let few = kept (g.B.Book.meaning c.args.book.now) (g.met.B.Book.kept c.args.book.now) in
     record { fits = omega (arith, few.rows, c.loop-row.invariant.1) }
 
@@ -55,7 +55,7 @@ loop-row-preserved g c =
 pub returns : goal.returns
 returns g c =
     let b = g.B.Book.meaning c.args.book.now in
-    let all = take_all c.loop-row.i b.rows (none_past b.rows c.loop-row.i (no_row b c.loop-row.i c.in-default.ensures)) in
+    let all = take_all c.loop-row.i b.rows (none_past b.rows c.loop-row.i (no_row b c.loop-row.i c.in_default.ensures)) in
     c.loop-row.invariant.0
     ∙ ap (λ l. 16 * length b.columns + length (flat_map row_bytes l)) all
     ∙ sym (length-listing b)

@@ -9,13 +9,13 @@ use Rattle.listings.proofs.write.put_columns.Goals as goal
 pub loop-column-init : goal.loop-column-init
 loop-column-init g c = run_none column_bytes _ c.args.out.now c.args.start c.requires
 
-pub put-column-at-requires : goal.put-column-at-requires
-put-column-at-requires g c =
+pub put_column-at-requires : goal.put_column-at-requires
+put_column-at-requires g c =
     let room = run_room column_bytes _ c.args.out.now c.args.start c.requires c.loop-column.invariant c.in-Some.column (sym c.in-Some.ensures) in
     omega (arith, room, length-column c.in-Some.column, c.loop-column.auto.out)
 
-pub overflow-add-j : goal.overflow-add-j
-overflow-add-j g c =
+pub overflow_add-j : goal.overflow_add-j
+overflow_add-j g c =
     let b = g.B.Book.meaning c.args.book.now in
     let few = kept b (g.met.B.Book.kept c.args.book.now) in
     record { fits = omega (arith, few.columns, c.loop-column.invariant.most) }
@@ -27,7 +27,7 @@ loop-column-smaller g c =
 
 pub loop-column-preserved : goal.loop-column-preserved
 loop-column-preserved g c =
-    run_more column_bytes _ c.args.out.now c.args.start c.requires c.loop-column.invariant c.in-Some.column _ _ (sym c.in-Some.ensures) c.put-column-at.ensures
+    run_more column_bytes _ c.args.out.now c.args.start c.requires c.loop-column.invariant c.in-Some.column _ _ (sym c.in-Some.ensures) c.put_column-at.ensures
 
 pub returns : goal.returns
-returns g c = run_all column_bytes _ c.args.out.now c.args.start c.requires c.loop-column.invariant (sym c.in-default.ensures)
+returns g c = run_all column_bytes _ c.args.out.now c.args.start c.requires c.loop-column.invariant (sym c.in_default.ensures)

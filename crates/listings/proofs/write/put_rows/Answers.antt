@@ -9,8 +9,8 @@ use Rattle.listings.proofs.write.put_rows.Goals as goal
 pub loop-row-init : goal.loop-row-init
 loop-row-init g c = run_none row_bytes _ c.args.out.now c.args.start c.requires
 
-pub put-head-terms-requires : goal.put-head-terms-requires
-put-head-terms-requires g c =
+pub put_head-terms-requires : goal.put_head-terms-requires
+put_head-terms-requires g c =
     let b = g.B.Book.meaning c.args.book.now in
     let f = found b c.loop-row.i c.in-Some.row c.in-Some.ensures in
     let room = run_room row_bytes b.rows c.args.out.now c.args.start c.requires c.loop-row.invariant f.full f.here in (
@@ -18,15 +18,15 @@ put-head-terms-requires g c =
       omega (arith, kept_terms b c.loop-row.i (g.met.B.Book.kept c.args.book.now), found_terms f),
     )
 
-pub put-terms-at-requires : goal.put-terms-at-requires
-put-terms-at-requires g c =
+pub put_terms-at-requires : goal.put_terms-at-requires
+put_terms-at-requires g c =
     let b = g.B.Book.meaning c.args.book.now in
     let f = found b c.loop-row.i c.in-Some.row c.in-Some.ensures in
     let room = run_room row_bytes b.rows c.args.out.now c.args.start c.requires c.loop-row.invariant f.full f.here in
-    omega (arith, room, found_length f, found_terms f, length-terms (terms_of_row b c.loop-row.i), length-head c.in-Some.row, c.put-head-terms.ensures.next_is, c.put-head-terms.auto.out, c.loop-row.auto.out)
+    omega (arith, room, found_length f, found_terms f, length-terms (terms_of_row b c.loop-row.i), length-head c.in-Some.row, c.put_head-terms.ensures.next_is, c.put_head-terms.auto.out, c.loop-row.auto.out)
 
-pub overflow-add-i : goal.overflow-add-i
-overflow-add-i g c =
+pub overflow_add-i : goal.overflow_add-i
+overflow_add-i g c =
     let few = kept (g.B.Book.meaning c.args.book.now) (g.met.B.Book.kept c.args.book.now) in
     record { fits = omega (arith, few.rows, c.loop-row.invariant.most) }
 
@@ -40,9 +40,9 @@ pub loop-row-preserved : goal.loop-row-preserved
 loop-row-preserved g c =
     let b = g.B.Book.meaning c.args.book.now in
     let f = found b c.loop-row.i c.in-Some.row c.in-Some.ensures in
-    run_more row_bytes b.rows c.args.out.now c.args.start c.requires c.loop-row.invariant f.full _ _ f.here (row_wrote f c.put-head-terms.ensures c.put-terms-at.ensures)
+    run_more row_bytes b.rows c.args.out.now c.args.start c.requires c.loop-row.invariant f.full _ _ f.here (row_wrote f c.put_head-terms.ensures c.put_terms-at.ensures)
 
 pub returns : goal.returns
 returns g c =
     let b = g.B.Book.meaning c.args.book.now in
-    run_all row_bytes b.rows c.args.out.now c.args.start c.requires c.loop-row.invariant (no_row b c.loop-row.i c.in-default.ensures)
+    run_all row_bytes b.rows c.args.out.now c.args.start c.requires c.loop-row.invariant (no_row b c.loop-row.i c.in_default.ensures)

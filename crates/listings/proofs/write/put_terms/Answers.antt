@@ -10,15 +10,15 @@ use Rattle.listings.proofs.write.put_terms.Goals as goal
 pub loop-term-init : goal.loop-term-init
 loop-term-init g c = run_none term_bytes _ c.args.out.now c.args.start c.requires
 
-pub put-term-at-requires : goal.put-term-at-requires
-put-term-at-requires g c =
+pub put_term-at-requires : goal.put_term-at-requires
+put_term-at-requires g c =
     let b = g.B.Book.meaning c.args.book.now in
     let here = sym (c.in-Some.ensures ∙ term_nth b c.args.i c.loop-term.k) in
     let room = run_room term_bytes _ c.args.out.now c.args.start c.requires c.loop-term.invariant c.in-Some.term here in
     omega (arith, room, length-term c.in-Some.term, c.loop-term.auto.out)
 
-pub overflow-add-k : goal.overflow-add-k
-overflow-add-k g c =
+pub overflow_add-k : goal.overflow_add-k
+overflow_add-k g c =
     let b = g.B.Book.meaning c.args.book.now in
     record { fits = omega (arith, kept_terms b c.args.i (g.met.B.Book.kept c.args.book.now), c.loop-term.invariant.most) }
 
@@ -32,9 +32,9 @@ pub loop-term-preserved : goal.loop-term-preserved
 loop-term-preserved g c =
     let b = g.B.Book.meaning c.args.book.now in
     let here = sym (c.in-Some.ensures ∙ term_nth b c.args.i c.loop-term.k) in
-    run_more term_bytes _ c.args.out.now c.args.start c.requires c.loop-term.invariant c.in-Some.term _ _ here c.put-term-at.ensures
+    run_more term_bytes _ c.args.out.now c.args.start c.requires c.loop-term.invariant c.in-Some.term _ _ here c.put_term-at.ensures
 
 pub returns : goal.returns
 returns g c =
     let b = g.B.Book.meaning c.args.book.now in
-    run_all term_bytes _ c.args.out.now c.args.start c.requires c.loop-term.invariant (sym (c.in-default.ensures ∙ term_nth b c.args.i c.loop-term.k))
+    run_all term_bytes _ c.args.out.now c.args.start c.requires c.loop-term.invariant (sym (c.in_default.ensures ∙ term_nth b c.args.i c.loop-term.k))

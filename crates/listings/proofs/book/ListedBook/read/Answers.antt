@@ -10,14 +10,14 @@ returns c =
     let bs = c.args.input.now in
     let r = c.build.result in
     let built = subst (λ rs. Built (map meant rs) (length bs) r) c.deref.ensures.value c.build.ensures in
-    let reads : Reads bs r = built_reads bs (map meant (vec_items c.in-ok-records.records)) c.in-ok-records.ensures.reads r built in
+    let reads : Reads bs r = built_reads bs (map meant (vec_items c.in_ok-records.records)) c.in_ok-records.ensures.reads r built in
     record { reads = reads; accepts = accepts_only bs r reads; refuses = refuses_only bs r reads }
 
-pub returns-in-err-records : goal.returns-in-err-records
-returns-in-err-records c =
+pub returns-in_err-records : goal.returns-in_err-records
+returns-in_err-records c =
     let bs = c.args.input.now in
-    let r = c.from-residual.result in
-    let p = err_from_is_err_and r c.from-residual.ensures.1 in
-    let told = refused_reads bs c.in-err-records.field-0.0 c.in-err-records.ensures.reads in
+    let r = c.from_residual.result in
+    let p = err_from_is_err_and r c.from_residual.ensures.1 in
+    let told = refused_reads bs c.in_err-records.field-0.0 c.in_err-records.ensures.reads in
     let reads : Reads bs r = subst (Reads bs) (sym p.1) (subst (Told bs) (sym p.2) told) in
     record { reads = reads; accepts = accepts_only bs r reads; refuses = refuses_only bs r reads }

@@ -13,4 +13,4 @@ pub returns : goal.returns
 returns c =
     let d = c.args.self in
     let none : length d.terms.items ≤ d.ended = search rules in
-    (and_from _ _ (eq-eqb _ _ (omega (arith, none, length-drop d.ended d.terms.items))) (sym c.if-not-is-sound.ensures), refl)
+    (and_from _ _ (eq-eqb _ _ (omega (arith, none, length-drop d.ended d.terms.items))) (sym c.if-not-is_sound.ensures), refl)

@@ -21,6 +21,6 @@ returns c =
     let rows : length d.rows.items ≤ 4000 = search rules in
     let short : d.ended ≤ length d.terms.items = search rules in
     let left = few_left (drafted d).lists columns (omega (arith, rows, length-map d.rows.items (full_row d.terms.items))) in
-    c.rows-are-short.ensures
+    c.rows_are_short.ensures
     ∙ ap (every short_row) c.deref.ensures.value
     ∙ sym (left ∙ rows_short d.ended d.rows.items d.terms.items short d.held)

@@ -6,4 +6,4 @@ pub returns : goal.returns
 returns c =
     let d = c.args.self.now in
     let short : d.ended ≤ length d.terms.items = search rules in
-    term_drafted d.columns.items d.rows.items d.terms.items d.ended short c.push.new.self.items c.args.term d.held c.in-ok-push.ensures.items
+    term_drafted d.columns.items d.rows.items d.terms.items d.ended short c.push.new.self.items c.args.term d.held c.in_ok-push.ensures.items

@@ -4,8 +4,8 @@ use Rattle.books.specs.Lists.{term_in}
 use Rattle.stored_book.proofs.StoredRows.{row_past, row_here, row_inside, term_here, terms_long}
 use Rattle.stored_book.proofs.book.answers.StoredBookBook.term.Goals as goal
 
-pub overflow-add-row : goal.overflow-add-row
-overflow-add-row c =
+pub overflow_add-row : goal.overflow_add-row
+overflow_add-row c =
     let b = c.args.self.now in
     let within : c.args.i < length b.rows.items = search rules in
     let held = row_inside b.columns.items b.rows.items b.terms.items c.args.i _ within c.index-row.ensures _ b.held in

@@ -2,7 +2,7 @@
 ghost use Rattle.std.specs.Prelude.{◌≡◌};
 ghost use Rattle.std.specs.List.{slice_get};
 ghost use Rattle.clause_book.specs.Books.{named_in};
-ghost use Rattle.case_text.specs.Names.{first_of, number_of, is_part, is_like, parts_before, column_name};
+ghost use Rattle.model_text.specs.Names.{first_of, number_of, is_part, is_like, parts_before, column_name};
 
 use case_columns::kinds::Kinds;
 use case_columns::name::{Name, Quantity};

@@ -8,7 +8,7 @@ use Rattle.case_columns.specs.declared.name.Name.{Name}
 use Rattle.case_columns.specs.declared.name.Named.{Named}
 use Rattle.case_columns.specs.declared.kinds.Kinds.{Kinds}
 use Rattle.clauses.specs.Sums.{number_of as quantity_number}
-use Rattle.case_text.specs.declared.name.ColumnName.{ColumnName}
+use Rattle.model_text.specs.declared.name.ColumnName.{ColumnName}
 
 -- the first record of the kind that has a quantity; the requirement is of no kind with numbers
 abbrev pub first_of : Kinds → Quantity → Option ℕ

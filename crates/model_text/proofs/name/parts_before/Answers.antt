@@ -3,8 +3,8 @@ use Rattle.std.specs.List.{slice_get}
 use Rattle.case_columns.specs.declared.name.Name.{Name}
 use Rattle.case_columns.specs.declared.name.Named.{Named}
 use Rattle.clause_book.specs.Books.{named_in}
-use Rattle.case_text.specs.Names.{is_like, parts_before}
-use Rattle.case_text.proofs.name.parts_before.Goals as goal
+use Rattle.model_text.specs.Names.{is_like, parts_before}
+use Rattle.model_text.proofs.name.parts_before.Goals as goal
 
 -- what the column before the one of a number makes of the count
 before : (cs : List Named) (n : Name) (i : ℕ) → 0 < i → parts_before cs n i ≡ cond (is_like (slice_get cs (i - 1)) n) (parts_before cs n (i - 1) + 1) 0

@@ -1,7 +1,7 @@
 use Rattle.std.proofs.Common.{◌≡◌, ◌+◌, ◌≤◌}
 use Rattle.clause_book.specs.Books.{named_in}
-use Rattle.case_text.specs.Names.{parts_before}
-use Rattle.case_text.proofs.name.parts_before.Given as goal
+use Rattle.model_text.specs.Names.{parts_before}
+use Rattle.model_text.proofs.name.parts_before.Given as goal
 
 -- those counted so far and those before the next column are all
 abbrev pub invariant-loop-i : goal.invariant-loop-i
