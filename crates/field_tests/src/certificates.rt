@@ -1,5 +1,6 @@
 //! Certificates of both kinds.
 use fields::certificate::{CertificateKind, read_certificate};
+use std::fmt::Display;
 use std::process::Abort;
 use std::test::Fail;
 
@@ -33,17 +34,18 @@ fn check_read(
     Ok(())
 }
 
-/// Checks that the input is refused at offset 0 under this number.
+/// Checks that the input is refused at offset 0 under this number. A failure tells what the input is.
 fn check_refused(
     rt: &impl Abort,
     kind: CertificateKind,
     input: &[u8],
     number: u8,
+    what: impl Display + Drop,
 ) -> Result<(), Fail> {
     match read_certificate(kind, input) {
-        Ok(_) => Err(Fail::new("accepted")),
+        Ok(_) => Err(Fail::new(format_args!("accepted: {what}"))),
         Err(fault) => {
-            assert_eq!(rt; (fault.kind.number(), fault.offset), (number, 0));
+            assert_eq!(rt; (fault.kind.number(), fault.offset), (number, 0), "{what}");
             Ok(())
         },
     }
@@ -56,9 +58,13 @@ fn check_rows(rt: &impl Abort, kind: CertificateKind, own: u8, other: u8) -> Res
         let [high, low] = length.to_be_bytes();
         let input = [tag, high, low, 0, 0, 0, 0, 0, 0];
         assert!(rt; size <= 9);
-        check_refused(rt, kind, &input[0..size], number).note(format_args!(
-            "{tag} {length} {size}"
-        ))?;
+        check_refused(
+            rt,
+            kind,
+            &input[0..size],
+            number,
+            format_args!("{tag} {length} {size}"),
+        )?;
     }
     Ok(())
 }

@@ -3,6 +3,7 @@ use crate::cases::LINE_CASE;
 use case_fields::read::read_case;
 use fields::fault::ReadError;
 use std::alloc::Global;
+use std::fmt::Display;
 use std::process::Abort;
 use std::test::Fail;
 
@@ -20,15 +21,16 @@ fn outcome(heap: Global, bytes: &[u8]) -> Result<(u8, usize), Fail> {
     }
 }
 
-/// Checks what reading gives: nought twice where the case is accepted, else the fault's number and place.
+/// Checks what reading gives: nought twice where the case is accepted, else the fault's number and place. A failure tells what was read.
 pub fn check_outcome(
     rt: &impl Abort,
     heap: Global,
     bytes: &[u8],
     number: u8,
     place: usize,
+    what: impl Display + Drop,
 ) -> Result<(), Fail> {
-    assert_eq!(rt; outcome(heap, bytes)?, (number, place));
+    assert_eq!(rt; outcome(heap, bytes)?, (number, place), "{what}");
     Ok(())
 }
 
@@ -62,5 +64,12 @@ pub fn check_replaced(
     (number, place): (u8, usize),
 ) -> Result<(), Fail> {
     let copy = replaced(rt, heap, line_case_bytes(), at, cut, new)?;
-    check_outcome(rt, heap, &copy, number, place).note(format_args!("{new:?} at {at}"))
+    check_outcome(
+        rt,
+        heap,
+        &copy,
+        number,
+        place,
+        format_args!("{new:?} at {at}"),
+    )
 }

@@ -73,7 +73,14 @@ fn check_count(
     let at = field.wrapping_add(3).wrapping_add(front as usize);
     let copy = replaced(rt, heap, &headed, at, cut, &pairs(heap, count)?)?;
     let place = if number == 0 { 0 } else { field };
-    check_outcome(rt, heap, &copy, number, place).note(format_args!("{count} at {field}"))
+    check_outcome(
+        rt,
+        heap,
+        &copy,
+        number,
+        place,
+        format_args!("{count} at {field}"),
+    )
 }
 
 #[test]

@@ -1,4 +1,6 @@
-//! Tests of the field layer: certificates, cases and listings.
+//! Tests of the field layer: certificates, cases and listings, and the text of a case.
+#![tactic(auto)]
+
 #[cfg(test)]
 mod cases;
 #[cfg(test)]
@@ -29,6 +31,8 @@ mod ranges;
 mod references;
 #[cfg(test)]
 mod tags;
+#[cfg(test)]
+mod text;
 #[cfg(test)]
 mod truncation;
 #[cfg(test)]

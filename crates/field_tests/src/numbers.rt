@@ -46,7 +46,7 @@ fn check_split<N: PartialEq + Debug + Drop>(
         return Err(Fail::new("no number"));
     };
     assert_eq!(rt; found, number);
-    assert_eq!(rt; rest, [9]);
+    assert_eq!(rt; rest, [9].as_slice());
     Ok(())
 }
 

@@ -31,7 +31,7 @@ fn check_order(
     for i in numbers {
         made.extend_from_slice(field(rt, *i))?;
     }
-    check_outcome(rt, heap, &made, number, place).note(format_args!("{numbers:?}"))
+    check_outcome(rt, heap, &made, number, place, format_args!("{numbers:?}"))
 }
 
 #[test]

@@ -94,22 +94,30 @@ fn edited(
     )
 }
 
-/// Checks the outcome of the case with two edits, of which so many bytes are kept.
+/// Checks the outcome of the case with two edits, of which so many bytes are kept. A failure tells the number of the row.
 fn check_row(
     rt: &impl Abort,
     heap: Global,
+    i: usize,
     (first, second, kept, number, place): Row,
 ) -> Result<(), Fail> {
     let once = edited(rt, heap, line_case_bytes(), first)?;
     let twice = edited(rt, heap, &once, second)?;
-    assert!(rt; kept <= twice.len());
-    check_outcome(rt, heap, &twice[0..kept], number, place)
+    assert!(rt; kept <= twice.len(), "row {i}");
+    check_outcome(
+        rt,
+        heap,
+        &twice[0..kept],
+        number,
+        place,
+        format_args!("row {i}"),
+    )
 }
 
 /// Checks each row.
 fn check_rows(rt: &impl Abort, heap: Global, rows: &[Row]) -> Result<(), Fail> {
     for i in 0..rows.len() {
-        check_row(rt, heap, rows[i]).note(format_args!("row {i}"))?;
+        check_row(rt, heap, i, rows[i])?;
     }
     Ok(())
 }

@@ -21,7 +21,14 @@ fn check_cuts(rt: &impl Abort, heap: Global, bytes: &[u8], starts: &[usize]) -> 
     for n in 0..bytes.len() {
         let start = start_at(starts, n);
         let number = if n == start { 3 } else { 1 };
-        check_outcome(rt, heap, &bytes[0..n], number, start).note(format_args!("{n} bytes"))?;
+        check_outcome(
+            rt,
+            heap,
+            &bytes[0..n],
+            number,
+            start,
+            format_args!("{n} bytes"),
+        )?;
     }
     Ok(())
 }
