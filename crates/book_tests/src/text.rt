@@ -1,5 +1,5 @@
 //! The text of cases and refusals.
-use case_text::outcome::{INPUT_LIMIT, outcome_of};
+use model_text::outcome::{INPUT_LIMIT, outcome_of};
 use std::test::Fail;
 
 /// Two nodes, a line of three points from node 1 to node 0, a bid of two blocks.

@@ -1,5 +1,5 @@
 //! Writes the listing of the case on standard input. A case that is refused is named on standard error alone.
-use case_text::outcome::{INPUT_LIMIT, Outcome, outcome_of};
+use model_text::outcome::{INPUT_LIMIT, Outcome, outcome_of};
 use listings::bytes::listing_bytes;
 use std::io::{Read, Write};
 

@@ -6,11 +6,9 @@ ghost use Rattle.model_text.specs.Outcomes.{IsCase, Becomes};
 use books::fault::{BookError, BookFault};
 use case_fields::read::read_case;
 use case_fields::record::CaseRecord;
+pub use case_text::outcome::INPUT_LIMIT;
 use clause_book::book::ClauseBook;
 use std::alloc::{AllocError, Global};
-
-/// The most bytes that a program takes.
-pub const INPUT_LIMIT: usize = 65_536;
 
 /// What becomes of an input.
 #[derive(Drop)]

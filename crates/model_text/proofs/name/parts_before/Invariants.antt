@@ -1,4 +1,4 @@
-use Rattle.std.proofs.Common.{◌≡◌, ◌+◌, ◌≤◌}
+use Rattle.std.proofs.Common.{◌≡◌, ◌+◌}
 use Rattle.clause_book.specs.Books.{named_in}
 use Rattle.model_text.specs.Names.{parts_before}
 use Rattle.model_text.proofs.name.parts_before.Given as goal
