@@ -21,7 +21,7 @@ BOUND = re.compile(r"(?:\blet\s+|[({]\s*|\s)(?P<name>[a-z][A-Za-z0-9_']*(?:-[A-Z
 GOAL = re.compile(r"\b(?:goal|given|need)\.([^\s(){};,]+)")
 CLAUSE_NAME = re.compile(r"D(?:-\d+)+$")
 STD = re.compile(r"use\s+(Rattle\.std[^{;\n]*|borrow[^{;\n]*|Prim[^{;\n]*|mathlib[^{;\n]*|native[^{;\n]*|lib[^{;\n]*)\.\{([^}]*)\}")
-FIXED = {"Too-large": "IsTooLarge", "last-tag": "tag_of_last", "getD-none": "get_or_none", "every-getD": "every_get_or"}
+FIXED = {"Free-of": "free_of", "Ending-at": "ending_at", "Too-large": "IsTooLarge", "last-tag": "tag_of_last", "getD-none": "get_or_none", "every-getD": "every_get_or"}
 
 
 def files(kind):
@@ -72,6 +72,9 @@ def own_names():
             for m in BOUND.finditer(line):
                 names.add(m.group("name"))
             names.update(re.findall(r"\bas\s+([a-z][A-Za-z0-9_']*(?:-[A-Za-z0-9_']+)+)", line))
+    for p in files(".rt"):
+        for line in re.findall(r"(?m)^ghost use .*$", read(p)):
+            names.update(re.findall(r"\bas\s+([A-Za-z][A-Za-z0-9_']*(?:-[A-Za-z0-9_']+)+)", line))
     return {n for n in names if n not in goals}, all_names, std
 
 

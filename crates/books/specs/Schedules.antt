@@ -1,7 +1,7 @@
 -- Schedules: one number a column. What the prices and a row make of one, and when one meets a book.
 -- A schedule may count in equal parts, d to the kilowatt: limits, sides and the on-value of a switch are then d times as large.
 use Rattle.std.specs.Prelude.{◌≡◌, ℕ, true, ◌⊎◌, List, [], ◌∷◌, ℤ, pos, ◌+ℤ◌, ◌*ℤ◌, ◌≤ℤ◌, Some, slice_index_or}
-use Rattle.std.specs.List.{AllByRecursion as All}
+use Rattle.std.specs.List.{AllByRecursion}
 use Rattle.listing_fields.specs.declared.term.Term.{Term}
 use Rattle.books.specs.declared.part.Column.{Column}
 use Rattle.books.specs.Lists.{FullRow, Lists}
@@ -38,4 +38,4 @@ Paired P (x ∷ xs) (y ∷ ys) = P x y × Paired P xs ys
 -- a schedule in d parts to the kilowatt meets a book: one number a column, every column and every row met
 pub record Meets (d : ℕ) (b : Lists) (xs : List ℤ) : Type 0 where
   pub each_column : Paired (MeetsColumn d) b.columns xs
-  pub each_row : All (MeetsRow d xs) b.rows
+  pub each_row : AllByRecursion (MeetsRow d xs) b.rows

@@ -5,7 +5,7 @@ ghost use Rattle.case_fields.specs.Parts.{blocks_in, points_in};
 ghost use Rattle.case_columns.specs.Kinds.{Few};
 ghost use Rattle.case_columns.specs.declared.name.Quantity.TheVariants.{OfferBlock, RegulationBlock};
 ghost use Rattle.case_columns.specs.Tables.{columns_in, begun, Adds};
-ghost use Rattle.case_columns.specs.Columns.{block_column, weight as weight-of, node_columns, line_front, line_columns, offer_front, offer_columns, bid_columns, regulation_front, regulation_columns, requirement_columns, columns_of, columns as all-columns};
+ghost use Rattle.case_columns.specs.Columns.{block_column, weight as weight_of, node_columns, line_front, line_columns, offer_front, offer_columns, bid_columns, regulation_front, regulation_columns, requirement_columns, columns_of, columns as all_columns};
 
 use crate::column::{
     angle, between, block as block_column, free, injection, priced, switch, violation, weight,
@@ -40,7 +40,7 @@ fn push_blocks(
 /// Adds a Weight for each point.
 fn push_weights(table: &mut Table, place: usize, points: Points<'_>) -> Result<(), AllocError>
     requires { place + 1 ≡ begun table.old }
-    ensures { OnOk result (Adds table.old table.new (map (weight-of place) (points_in points.entry.bytes.now))) }
+    ensures { OnOk result (Adds table.old table.new (map (weight_of place) (points_in points.entry.bytes.now))) }
 {
     let mut i = 0;
     while let Some(point) = points.get(i) {
@@ -112,7 +112,7 @@ fn push_line(
     points: Points<'_>,
 ) -> Result<(), AllocError>
     requires { (Few kinds) × (place + 1 ≡ begun table.old) }
-    ensures { OnOk result (Adds table.old table.new (line_front kinds place start end price ++ map (weight-of place) (points_in points.entry.bytes.now))) }
+    ensures { OnOk result (Adds table.old table.new (line_front kinds place start end price ++ map (weight_of place) (points_in points.entry.bytes.now))) }
 {
     push_line_front(table, kinds, place, start, end, price)?;
     push_weights(table, place, points)?;
@@ -277,7 +277,7 @@ fn push_record(
 
 /// The named columns of a case, in file order.
 pub fn table_of(heap: Global, records: &[CaseRecord<'_>]) -> Result<Table, AllocError>
-    ensures { IfOk result (λ t. columns_in t ≡ all-columns (map meant records.now)) }
+    ensures { IfOk result (λ t. columns_in t ≡ all_columns (map meant records.now)) }
 {
     let kinds = kinds_of(records);
     let mut table = Table::new(heap);

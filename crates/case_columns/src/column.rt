@@ -1,6 +1,6 @@
 //! One column and its name.
 ghost use Rattle.std.specs.Prelude.{◌≡◌, negsuc, neg_ℤ, ◌≤ℤ◌, ◌==◌};
-ghost use Rattle.case_columns.specs.Columns.{minus as minus-of, column_of, free as Free-of, priced as priced-of, violation as violation-of, between as between-of, weight as weight-of, switch_column, block_column, injection as injection-of, turn as turn-of, angle as angle-of};
+ghost use Rattle.case_columns.specs.Columns.{minus as minus_of, column_of, free as free_of, priced as priced_of, violation as violation_of, between as between_of, weight as weight_of, switch_column, block_column, injection as injection_of, turn as turn_of, angle as angle_of};
 
 use crate::name::{Name, Named, Quantity};
 use books::part::Column;
@@ -8,7 +8,7 @@ use case_fields::part::{Block, Point};
 
 /// Minus a price; 32 bits hold it for every price but the lowest.
 fn minus(price: i32) -> i32
-    ensures value { result ≡ minus-of price }
+    ensures value { result ≡ minus_of price }
     ensures exact { negsuc 2147483646 ≤ℤ price → result ≡ neg_ℤ price }
 {
     0i32.saturating_sub(price)
@@ -45,7 +45,7 @@ fn column(
 
 /// 0 to 1,000,000, at no price.
 pub(crate) fn free(quantity: Quantity, place: usize, node: usize) -> Named
-    ensures { result ≡ Free-of quantity place node }
+    ensures { result ≡ free_of quantity place node }
 {
     column(quantity, place, node, 0, 1_000_000, 0)
 }
@@ -58,14 +58,14 @@ pub(crate) fn priced(
     maximum: i32,
     price: i32,
 ) -> Named
-    ensures { result ≡ priced-of quantity place node maximum price }
+    ensures { result ≡ priced_of quantity place node maximum price }
 {
     column(quantity, place, node, 0, maximum, minus(price))
 }
 
 /// 0 to 1,000,000, at minus the violation price.
 pub(crate) fn violation(quantity: Quantity, place: usize, price: i32) -> Named
-    ensures { result ≡ violation-of quantity place price }
+    ensures { result ≡ violation_of quantity place price }
 {
     column(quantity, place, 0, 0, 1_000_000, minus(price))
 }
@@ -78,7 +78,7 @@ pub(crate) fn between(
     end: usize,
     lower: i32,
 ) -> Named
-    ensures { result ≡ between-of quantity place start end lower }
+    ensures { result ≡ between_of quantity place start end lower }
 {
     Named {
         name: Name {
@@ -100,7 +100,7 @@ pub(crate) fn between(
 
 /// A point's Weight.
 pub(crate) fn weight(place: usize, point: Point) -> Named
-    ensures { result ≡ weight-of place point }
+    ensures { result ≡ weight_of place point }
 {
     Named {
         name: Name {
@@ -155,7 +155,7 @@ pub(crate) fn block(bought: bool, quantity: Quantity, place: usize, block: Block
 
 /// A node's Injection.
 pub(crate) fn injection(place: usize) -> Named
-    ensures { result ≡ injection-of place }
+    ensures { result ≡ injection_of place }
 {
     column(
         Quantity::Injection,
@@ -169,14 +169,14 @@ pub(crate) fn injection(place: usize) -> Named
 
 /// The limit of an angle, which is nought at the reference node.
 fn turn(place: usize, reference: usize, limit: i32) -> i32
-    ensures { result ≡ turn-of (place == reference) limit }
+    ensures { result ≡ turn_of (place == reference) limit }
 {
     if place == reference { 0 } else { limit }
 }
 
 /// A node's Angle.
 pub(crate) fn angle(place: usize, reference: usize) -> Named
-    ensures { result ≡ angle-of place reference }
+    ensures { result ≡ angle_of place reference }
 {
     let lower = turn(place, reference, -1_000_000);
     let upper = turn(place, reference, 1_000_000);

@@ -5,12 +5,12 @@ use Rattle.std.proofs.Common.{◌≡◌, ℕ, zero, suc, ◌+◌, ◌<◌, ◌�
 use mathlib.Core.Path.{fun_ext}
 use lib.IntN.{*ℤ-zero, zero-*ℤ, +ℤ_idr}
 use Rattle.std.proofs.lemmas.Bool.{and_parts, leb-true}
-use Rattle.std.specs.List.{AllByRecursion as All}
+use Rattle.std.specs.List.{AllByRecursion}
 use Rattle.listing_fields.specs.declared.term.Term.{Term}
 use Rattle.listing_fields.specs.Tests.{is_nought, terms_rise}
 use Rattle.books.specs.declared.part.Column.{Column}
-use Rattle.books.specs.Lists.{FullRow, Lists}
-use Rattle.books.specs.Conditions.{every, sound, sound_row}
+use Rattle.books.specs.Lists.{FullRow}
+use Rattle.books.specs.Conditions.{every, sound_row}
 use Rattle.books.specs.Schedules.{Paired, activity, MeetsColumn, MeetsRow, benefit}
 use Rattle.books.proofs.Sounds.{sound_parts, sound_row_parts}
 use Rattle.certificates.specs.Bounds.{SignFits, at_limit, row_adds, rows_add, coefficient_of, reduced_cost, K, columns_add}
@@ -147,7 +147,7 @@ by_columns rs ys d i (c ∷ cs) (x ∷ xs) p =
     let e₅ = times_add (pos d) (at_limit k c.lower c.upper) (columns_add rs ys (suc i) cs) in
     omega (arith, linear)
 
-by_rows : (n : ℕ) (rs : List FullRow) (ys : List ℤ) (d : ℕ) (xs : List ℤ) → every (sound_row n) rs ≡ true → Paired SignFits rs ys → All (MeetsRow d xs) rs → dot (mix rs ys) 0 xs ≤ℤ (pos d *ℤ rows_add rs ys)
+by_rows : (n : ℕ) (rs : List FullRow) (ys : List ℤ) (d : ℕ) (xs : List ℤ) → every (sound_row n) rs ≡ true → Paired SignFits rs ys → AllByRecursion (MeetsRow d xs) rs → dot (mix rs ys) 0 xs ≤ℤ (pos d *ℤ rows_add rs ys)
 by_rows n [] ys d xs w f m = let z = dot_zero 0 xs in let e = *ℤ-zero (pos d) in omega (arith, linear)
 by_rows n (r ∷ rs) [] d xs w f m = absurd f
 by_rows n (r ∷ rs) (y ∷ ys) d xs w f m =

@@ -1,6 +1,6 @@
 -- The checks on the numbers of a certificate, in their order, and the figure of one that passes them all.
-use Rattle.std.specs.Prelude.{◌≡◌, ℕ, suc, ◌/◌, ◌%◌, Bool, true, false, cond, not, ◌&&◌, List, [], ◌∷◌, length, ℤ, pos, negsuc, is_some, Some, None, Ok, Err, Option, Result, ◌==◌, int_le, nat_le, nat_lt, unsigned_abs}
-use Rattle.std.specs.List.{AllByRecursion as All}
+use Rattle.std.specs.Prelude.{◌≡◌, ℕ, suc, ◌/◌, ◌%◌, Bool, true, cond, ◌&&◌, List, [], ◌∷◌, length, ℤ, pos, negsuc, is_some, Some, None, Ok, Err, Option, Result, ◌==◌, int_le, nat_le, nat_lt, unsigned_abs}
+use Rattle.std.specs.List.{AllByRecursion}
 use Rattle.books.specs.declared.part.Column.{Column}
 use Rattle.books.specs.Lists.{FullRow, Lists}
 use Rattle.books.specs.Schedules.{activity, benefit, Paired, Meets}
@@ -109,7 +109,7 @@ set_answer b values = cond (right_count 8 (length b.rows) values) (judged_set b 
 
 -- a set is accepted with this bound: signs and sizes fit, and every product and running value is within reach
 pub record SetPasses (b : Lists) (ys : List ℤ) (v : ℤ) : Type 0 where
-  pub sizes : All (λ (y : ℤ). multiplier_reaches y ≡ true) ys
+  pub sizes : AllByRecursion (λ (y : ℤ). multiplier_reaches y ≡ true) ys
   pub signs : Paired SignFits b.rows ys
   pub reach : first_beyond (steps b ys) ≡ None
   pub figure : v ≡ bound b ys

@@ -4,7 +4,7 @@ use Rattle.books.specs.declared.part.Column.{Column}
 use Rattle.books.specs.Lists.{FullRow, Lists}
 use Rattle.certificates.specs.declared.fault.DocketFault.{DocketFault}
 use Rattle.certificates.specs.declared.fault.DocketFault.TheVariants.{RowBeyond, ColumnBeyond}
-use Rattle.certificates.specs.Bounds.{K, row_adds, rows_add, coefficient_of, reduced_cost, column_adds}
+use Rattle.certificates.specs.Bounds.{K, row_adds, rows_add, coefficient_of, column_adds}
 
 pub record Step : Type 0 where
   pub fault : DocketFault

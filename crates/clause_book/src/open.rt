@@ -1,5 +1,5 @@
 //! Opening the book over a case.
-ghost use Rattle.std.specs.Prelude.{◌≡◌, true, false, ◌⊎◌, List, map, length as length-of, MatchResult, nat_lt};
+ghost use Rattle.std.specs.Prelude.{◌≡◌, true, false, ◌⊎◌, List, map, length as length_of, MatchResult, nat_lt};
 ghost use Rattle.fields.specs.Files.{IsFile};
 ghost use Rattle.case_fields.specs.Entries.{Entry};
 ghost use Rattle.case_fields.specs.Cases.{case_format};
@@ -27,7 +27,7 @@ use std::alloc::Global;
 
 /// Whether there are more than 4,000 columns.
 fn has_many_columns(table: &Table) -> bool
-    ensures { result ≡ nat_lt 4000 (length-of (columns_in table.now)) }
+    ensures { result ≡ nat_lt 4000 (length_of (columns_in table.now)) }
 {
     table.len() > 4000
 }

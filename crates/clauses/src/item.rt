@@ -1,6 +1,6 @@
 //! The items that clauses are made of.
 ghost use Rattle.std.specs.Prelude.{◌≡◌, ◌<◌};
-ghost use Rattle.clauses.specs.Clauses.{the, all, starting as starting-at, ending as Ending-at, item as item_of, minus_item, flows_item, losses_item};
+ghost use Rattle.clauses.specs.Clauses.{the, all, starting as starting_at, ending as ending_at, item as item_of, minus_item, flows_item, losses_item};
 
 use crate::sum::{Ends, Factor, Item, Pick};
 use case_columns::kinds::Span;
@@ -80,7 +80,7 @@ pub(crate) fn every(c: i32, quantity: Quantity, span: Span) -> Item
 
 /// A number times those at a node; of lines, those that start there.
 pub(crate) fn starting(c: i32, quantity: Quantity, span: Span, node: usize) -> Item
-    ensures { result ≡ item_of c (starting-at quantity span node) }
+    ensures { result ≡ item_of c (starting_at quantity span node) }
 {
     Item {
         factor: Factor::Number(c),
@@ -95,7 +95,7 @@ pub(crate) fn starting(c: i32, quantity: Quantity, span: Span, node: usize) -> I
 
 /// A number times those of lines that end at a node.
 pub(crate) fn ending(c: i32, quantity: Quantity, span: Span, node: usize) -> Item
-    ensures { result ≡ item_of c (Ending-at quantity span node) }
+    ensures { result ≡ item_of c (ending_at quantity span node) }
 {
     Item {
         factor: Factor::Number(c),

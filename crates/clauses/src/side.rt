@@ -1,7 +1,7 @@
 //! Rows by the sides that they have.
 ghost use Rattle.std.specs.Prelude.{◌≡◌, ◌≤◌, [], ◌∷◌, length, pos, ◌+ℤ◌, ◌-ℤ◌, neg_ℤ, ◌≤ℤ◌, OnOk};
 ghost use Rattle.case_columns.specs.Tables.{columns_in};
-ghost use Rattle.clauses.specs.Rows.{equal as equal-to, about as about-at, at_least, at_most};
+ghost use Rattle.clauses.specs.Rows.{equal as equal_to, about as about_at, at_least, at_most};
 ghost use Rattle.clauses.specs.Stored.{Adds};
 
 use crate::rows::Rows;
@@ -18,7 +18,7 @@ pub(crate) fn equal(
     items: &[Item],
 ) -> Result<(), AllocError>
     requires { length items.now ≤ 8 }
-    ensures { OnOk result (Adds (columns_in table.now) rows.old rows.new (equal-to code side items.now ∷ [])) }
+    ensures { OnOk result (Adds (columns_in table.now) rows.old rows.new (equal_to code side items.now ∷ [])) }
 {
     rows.push(table, code, Some(side), Some(side), items)
 }
@@ -77,7 +77,7 @@ pub(crate) fn about(
     items: &[Item],
 ) -> Result<(), AllocError>
     requires { (length items.now ≤ 8) × ((neg_ℤ (pos 4611686018427387904) ≤ℤ side) × (side ≤ℤ pos 4611686018427387904)) }
-    ensures { OnOk result (Adds (columns_in table.now) rows.old rows.new (about-at code allowance side items.now ∷ [])) }
+    ensures { OnOk result (Adds (columns_in table.now) rows.old rows.new (about_at code allowance side items.now ∷ [])) }
 {
     rows.push(
         table,

@@ -1,6 +1,6 @@
 //! The coefficient of a column in a sum.
 ghost use Rattle.std.specs.Prelude.{◌≡◌, ◌≤◌, length, pos, neg_ℤ, ◌≤ℤ◌};
-ghost use Rattle.clauses.specs.Sums.{at_ends, picks, factor as factor-of, amount as amount-of, coefficient as all-amounts};
+ghost use Rattle.clauses.specs.Sums.{at_ends, picks, factor as factor_of, amount as amount_of, coefficient as all_amounts};
 
 use crate::sum::{Ends, Factor, Item, Pick};
 use case_columns::name::Name;
@@ -28,7 +28,7 @@ fn is_picked(pick: Pick, name: Name) -> bool
 
 /// What a column is multiplied by.
 fn multiple(factor: Factor, name: Name) -> i64
-    ensures value { result ≡ factor-of factor name }
+    ensures value { result ≡ factor_of factor name }
     ensures low { neg_ℤ (pos 2147483648) ≤ℤ result }
     ensures high { result ≤ℤ pos 2147483648 }
 {
@@ -42,7 +42,7 @@ fn multiple(factor: Factor, name: Name) -> i64
 
 /// What an item adds to the coefficient of a column.
 fn amount(item: Item, name: Name) -> i64
-    ensures value { result ≡ amount-of item name }
+    ensures value { result ≡ amount_of item name }
     ensures low { neg_ℤ (pos 2147483648) ≤ℤ result }
     ensures high { result ≤ℤ pos 2147483648 }
 {
@@ -56,7 +56,7 @@ fn amount(item: Item, name: Name) -> i64
 /// The coefficient of a column in a sum of at most 8 items.
 pub(crate) fn coefficient(items: &[Item], name: Name) -> i64
     requires { length items.now ≤ 8 }
-    ensures { result ≡ all-amounts items.now name }
+    ensures { result ≡ all_amounts items.now name }
 {
     let mut sum = 0i64;
     for item in items {

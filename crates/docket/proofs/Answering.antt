@@ -1,6 +1,5 @@
 -- The answer to a call is one, and is an acceptance exactly when the call is to be accepted.
-use Rattle.std.proofs.Common.{◌≡◌, ℕ, Bool, true, ◌⊎◌, List, [], length, ℤ, Ok, Err, Result, sym, refl, ap, ◌∙◌, subst, inl, inr, ⊎_elim, arith}
-use Rattle.fields.specs.Faults.{First}
+use Rattle.std.proofs.Common.{◌≡◌, ℕ, true, List, length, ℤ, Ok, Err, Result, sym, refl, ap, ◌∙◌, subst, inl, inr, arith}
 use Rattle.fields.specs.Certificates.{IsCertificate, certificate_checks}
 use Rattle.fields.specs.declared.certificate.CertificateKind.{CertificateKind}
 use Rattle.fields.specs.declared.certificate.CertificateKind.TheVariants.{Schedule, Multipliers}
@@ -12,7 +11,7 @@ use Rattle.certificates.specs.Values.{quantities, multipliers}
 use Rattle.certificates.specs.Checks.{right_count, schedule_answer, SchedulePasses, set_answer, SetPasses}
 use Rattle.certificates.specs.declared.fault.DocketFault.{DocketFault}
 use Rattle.certificates.specs.declared.fault.DocketFault.TheVariants.{Field}
-use Rattle.docket.specs.Calls.{Laid, laid, value_answer, Unfit, Judged, Answered, AcceptedSchedule, AcceptedSet, AcceptedCall, RightVerdict}
+use Rattle.docket.specs.Calls.{Laid, laid, value_answer, Judged, Answered, AcceptedSchedule, AcceptedSet, AcceptedCall, RightVerdict}
 use Rattle.docket.specs.Verdicts.{verdict_of}
 
 abbrev Outcome : Type 0

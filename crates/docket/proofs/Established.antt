@@ -1,7 +1,7 @@
 -- What stands after a history: bounds cap every schedule, and the gap is not negative and never grows.
 use Rattle.std.proofs.Common.{◌≡◌, ℕ, Bool, true, false, cond, List, [], ◌∷◌, ◌++◌, ℤ, pos, ◌-ℤ◌, ◌*ℤ◌, ◌≤ℤ◌, ◌<ℤ◌, Some, None, Option, sym, refl, ap, ◌∙◌, subst, arith, lit≤}
 use lib.Signed.{lt_z}
-use Rattle.std.proofs.lemmas.Int.{ints, by_lt_z}
+use Rattle.std.proofs.lemmas.Int.{ints}
 use Rattle.fields.proofs.Certified.{one}
 use Rattle.fields.specs.declared.certificate.CertificateKind.TheVariants.{Schedule, Multipliers}
 use Rattle.books.specs.Lists.{Lists}
@@ -13,9 +13,8 @@ use Rattle.certificates.specs.Bounds.{K, bound}
 use Rattle.certificates.specs.Duality.{Caps}
 use Rattle.certificates.proofs.Weak.{weak_duality}
 use Rattle.docket.specs.declared.standing.Labelled.{Labelled}
-use Rattle.docket.specs.declared.standing.Standing.{Standing}
 use Rattle.docket.specs.Calls.{Laid, AcceptedSchedule, AcceptedSet}
-use Rattle.docket.specs.Standings.{FirstBest, Leads, Best, Lowest, gap_of, StandingOf, Shrinks, GapNeverGrows}
+use Rattle.docket.specs.Standings.{Best, Lowest, gap_of, StandingOf, Shrinks, GapNeverGrows}
 use Rattle.docket.specs.Labels.{label_in, figure_in, standing_by, greater, lower}
 use Rattle.docket.proofs.Leading.{Orders, keeps, begins, leads, follows, later, stays}
 

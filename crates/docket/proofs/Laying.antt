@@ -1,5 +1,5 @@
 -- What a call does to what stands.
-use Rattle.std.proofs.Common.{◌≡◌, ℕ, Bool, true, false, cond, List, [], ◌∷◌, ◌++◌, ℤ, Some, None, Ok, Err, Option, sym, refl, ap, ◌∙◌, subst, inl, inr}
+use Rattle.std.proofs.Common.{◌≡◌, ℕ, Bool, true, false, cond, List, [], ◌∷◌, ◌++◌, ℤ, Some, None, Ok, Err, Option, sym, ap, ◌∙◌, subst, inl, inr}
 use lib.Signed.{lt_z}
 use Rattle.fields.specs.declared.certificate.CertificateKind.{CertificateKind}
 use Rattle.fields.specs.declared.certificate.CertificateKind.TheVariants.{Schedule, Multipliers}

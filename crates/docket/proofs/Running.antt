@@ -1,5 +1,5 @@
 -- A run, call by call.
-use Rattle.std.proofs.Common.{◌≡◌, ℕ, zero, suc, ◌+◌, ◌<◌, ◌≤◌, ◌⊎◌, List, [], ◌∷◌, ◌++◌, map, length, get_or, take, Some, sym, refl, ap, ◌∙◌, subst, inl, inr, ⊎_elim, arith}
+use Rattle.std.proofs.Common.{◌≡◌, ℕ, zero, suc, ◌+◌, ◌<◌, ◌≤◌, List, [], ◌∷◌, ◌++◌, map, length, get_or, take, Some, sym, refl, ap, subst, ⊎_elim, arith}
 use Rattle.std.specs.List.{slice_get}
 use Rattle.std.proofs.lemmas.List.{length-append, map_more, take_all, take-append-le}
 use Rattle.books.specs.Lists.{Lists}
@@ -8,7 +8,7 @@ use Rattle.docket.specs.declared.run.Call.{Call}
 use Rattle.docket.specs.declared.standing.Standing.{Standing}
 use Rattle.docket.specs.declared.verdict.Verdict.{Verdict}
 use Rattle.docket.specs.Calls.{Laid, RightVerdict}
-use Rattle.docket.specs.Standings.{StandingOf, Shrinks}
+use Rattle.docket.specs.Standings.{StandingOf}
 use Rattle.docket.specs.Runs.{laid_by, RightRun}
 use Rattle.docket.proofs.Leading.{nth_below, nth_push}
 use Rattle.docket.proofs.Established.{gap_never_grows}

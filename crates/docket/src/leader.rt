@@ -1,12 +1,12 @@
 //! The better of two figures, of which the first stays if they are equal.
 ghost use Rattle.std.specs.Prelude.{◌≡◌};
-ghost use Rattle.docket.specs.Labels.{greater as greater-of, lower as lower_of};
+ghost use Rattle.docket.specs.Labels.{greater as greater_of, lower as lower_of};
 
 use crate::standing::Labelled;
 
 /// The greater of what stood and a new figure.
 pub(crate) fn greater(stood: Option<Labelled>, new: Labelled) -> Option<Labelled>
-    ensures { result ≡ greater-of stood new }
+    ensures { result ≡ greater_of stood new }
 {
     match stood {
         Some(old) => if old.figure < new.figure {

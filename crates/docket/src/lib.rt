@@ -1,4 +1,6 @@
 //! A docket: what the schedules and multipliers laid on one book establish.
+#![tactic(auto)]
+
 pub mod docket;
 mod gap;
 mod judge;

@@ -1,6 +1,6 @@
 //! What a docket answers to a certificate.
 ghost use Rattle.std.specs.Prelude.{◌≡◌};
-ghost use Rattle.docket.specs.Verdicts.{refusal as refusal-of};
+ghost use Rattle.docket.specs.Verdicts.{refusal as refusal_of};
 
 use books::part::Place;
 use certificates::fault::DocketFault;
@@ -22,7 +22,7 @@ pub enum Verdict {
 
 /// The refusal for a fault.
 pub(crate) fn refusal(fault: DocketFault) -> Verdict
-    ensures { result ≡ refusal-of fault }
+    ensures { result ≡ refusal_of fault }
 {
     Verdict::Refused {
         number: fault.number(),

@@ -1,6 +1,6 @@
 -- Two walks over the same bytes come to the same parts.
-use Rattle.std.proofs.Common.{◌≡◌, ℕ, zero, suc, ◌+◌, Bool, true, false, List, [], ◌∷◌, ◌++◌, length, get_or, sym, refl, ap, ◌∙◌, subst, arith}
-use Rattle.fields.specs.Fields.{field, Begins, Cut}
+use Rattle.std.proofs.Common.{◌≡◌, ℕ, true, false, List, [], ◌∷◌, ◌++◌, length, get_or, sym, refl, ap, ◌∙◌, arith}
+use Rattle.fields.specs.Fields.{field, Begins}
 use Rattle.fields.proofs.Heads.{begins_one}
 use Rattle.fields.proofs.Loops.{sizes}
 use Rattle.inputs.specs.Parts.{is_certificate_tag, CasePart, at_end, at_certificate, at_cut, past_field, FieldsOf, one_whole, one_cut, none_left}

@@ -1,10 +1,9 @@
 -- From field to field of an input.
-use Rattle.std.proofs.Common.{◌≡◌, ℕ, zero, suc, ◌+◌, ◌-◌, ◌<◌, ◌≤◌, Bool, true, false, ◌⊎◌, List, [], ◌∷◌, ◌++◌, length, take, drop, sym, refl, ap, ◌∙◌, subst, inl, inr, ⊎_elim, append_assoc, arith}
+use Rattle.std.proofs.Common.{◌≡◌, ℕ, ◌-◌, ◌<◌, true, false, List, [], ◌∷◌, ◌++◌, length, take, drop, sym, refl, ap, ◌∙◌, subst, ⊎_elim, append_assoc, arith}
 use Rattle.std.proofs.lemmas.List.{length-append, append-nil, take_all, drop_all}
 use Rattle.fields.specs.Fields.{field, Begins, Cut}
-use Rattle.fields.proofs.Heads.{length-field}
 use Rattle.fields.proofs.Loops.{sizes}
-use Rattle.inputs.specs.Parts.{is_certificate_tag, CasePart, at_end, at_certificate, at_cut, past_field, FieldsOf, one_whole, one_cut, none_left}
+use Rattle.inputs.specs.Parts.{CasePart, at_end, at_certificate, at_cut, past_field, FieldsOf, one_whole, one_cut, none_left}
 use Rattle.inputs.specs.Walks.{certificate_in_front, Stops, Passes}
 
 -- ---- a front and what follows it

@@ -1,6 +1,6 @@
 -- One step from field to field.
 use Rattle.std.specs.Prelude.{◌≡◌, ℕ, Bool, true, false, ◌⊎◌, List, [], ◌∷◌}
-use Rattle.fields.specs.Fields.{field, Begins, Cut}
+use Rattle.fields.specs.Fields.{Begins, Cut}
 use Rattle.inputs.specs.Parts.{is_certificate_tag}
 
 -- the bytes begin with the tag of a certificate

@@ -1,6 +1,6 @@
 //! The certificates of an input.
 ghost use Rattle.std.specs.Prelude.{◌≡◌, ℕ, ◌<◌, List, [], ◌∷◌, length, MatchOption};
-ghost use Rattle.inputs.specs.Parts.{FieldsOf, kind_of as kind-by-tag};
+ghost use Rattle.inputs.specs.Parts.{FieldsOf, kind_of as kind_by_tag};
 ghost use Rattle.inputs.specs.Labels.{label_in};
 
 use fields::certificate::CertificateKind;
@@ -24,7 +24,7 @@ pub fn next_field(bytes: &[u8]) -> Option<(&[u8], &[u8])>
 
 /// The kind that the field of a certificate is laid as: by tag 20 a schedule, and anything else as multipliers.
 pub fn kind_of(field: &[u8]) -> CertificateKind
-    ensures { result ≡ kind-by-tag field.now }
+    ensures { result ≡ kind_by_tag field.now }
 {
     let [tag, ..] = field else {
         return CertificateKind::Multipliers;

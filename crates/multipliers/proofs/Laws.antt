@@ -1,6 +1,6 @@
 -- A set is accepted exactly when it has one multiplier a row and passes, and its figure then lies within ±2^60.
 use Rattle.std.proofs.Common.{◌≡◌, ℕ, zero, suc, ◌/◌, ◌%◌, Bool, true, false, cond, eqb, ltb, List, [], ◌∷◌, length, ℤ, pos, negsuc, ◌+ℤ◌, is_some, IfOk, Some, None, Ok, Err, Option, unwrap_or, sym, refl, ap, ◌∙◌, subst, arith}
-use Rattle.std.specs.List.{AllByRecursion as All}
+use Rattle.std.specs.List.{AllByRecursion}
 use Rattle.std.proofs.lemmas.Int.{ints}
 use Rattle.std.proofs.lemmas.Bool.{and_parts, eqb-true, lt-ltb}
 use Rattle.books.specs.declared.part.Column.{Column}
@@ -28,7 +28,7 @@ cond_none : (t : Bool) (o : Option DocketFault) (f : DocketFault) → cond t o (
 cond_none true o f e = (refl, e)
 cond_none false o f e = never (cc)
 
-small_of : (i : ℕ) (rs : List FullRow) (ys : List ℤ) → length ys ≡ length rs → first_large i rs ys ≡ None → All (λ (y : ℤ). multiplier_reaches y ≡ true) ys
+small_of : (i : ℕ) (rs : List FullRow) (ys : List ℤ) → length ys ≡ length rs → first_large i rs ys ≡ None → AllByRecursion (λ (y : ℤ). multiplier_reaches y ≡ true) ys
 small_of i [] [] h e = tt
 small_of i [] (y ∷ ys) h e = absurd (omega arith)
 small_of i (r ∷ rs) [] h e = tt
@@ -36,7 +36,7 @@ small_of i (r ∷ rs) (y ∷ ys) h e =
     let p = cond_none (multiplier_reaches y) (first_large (suc i) rs ys) (MultiplierBeyond i r.code) e in
     (p.0, small_of (suc i) rs ys (omega arith) p.1)
 
-of_small : (i : ℕ) (rs : List FullRow) (ys : List ℤ) → All (λ (y : ℤ). multiplier_reaches y ≡ true) ys → first_large i rs ys ≡ None
+of_small : (i : ℕ) (rs : List FullRow) (ys : List ℤ) → AllByRecursion (λ (y : ℤ). multiplier_reaches y ≡ true) ys → first_large i rs ys ≡ None
 of_small i [] ys a = refl
 of_small i (r ∷ rs) [] a = refl
 of_small i (r ∷ rs) (y ∷ ys) a =

@@ -1,4 +1,6 @@
 //! Sums, differences and products that lie within ±2^60, tested before they are made.
+#![tactic(auto)]
+
 ghost use Rattle.std.specs.Prelude.{◌≡◌, ◌+ℤ◌, ◌-ℤ◌, ◌*ℤ◌};
 ghost use Rattle.certificates.specs.Steps.{in_reach};
 ghost use Rattle.reach.specs.Ranged.{reach, more, less};

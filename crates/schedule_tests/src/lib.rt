@@ -1,3 +1,5 @@
 //! Tests of schedules against a book.
+#![tactic(auto)]
+
 #[cfg(test)]
 mod tests;

@@ -1,7 +1,7 @@
 -- A schedule is accepted exactly when it meets the book and its net benefit is within reach.
 use Rattle.std.proofs.Common.{◌≡◌, ℕ, zero, suc, ◌/◌, ◌%◌, Bool, true, false, cond, not, ◌||◌, eqb, ◌⊎◌, List, [], ◌∷◌, length, ℤ, pos, negsuc, ◌*ℤ◌, ◌≤ℤ◌, IfOk, Some, None, Ok, Err, Option, Result, sym, refl, ap, ◌∙◌, inl, inr, arith}
 use lib.Signed.{le_z}
-use Rattle.std.specs.List.{AllByRecursion as All}
+use Rattle.std.specs.List.{AllByRecursion}
 use Rattle.std.proofs.lemmas.Int.{ints}
 use Rattle.std.proofs.lemmas.Bool.{and_parts, and_from, eqb-true, cond-true}
 use Rattle.books.specs.declared.part.Column.{Column}
@@ -88,7 +88,7 @@ below_passes : (o : Option ℤ) (a : ℤ) → ((s : ℤ) → o ≡ Some s → a 
 below_passes None a m = refl
 below_passes (Some s) a m = le_leZ a s (rw (one_times s) at (m s refl))
 
-rows_met : (k : ℕ) (rs : List FullRow) (xs : List ℤ) → first_broken_row k rs xs ≡ None → All (MeetsRow 1 xs) rs
+rows_met : (k : ℕ) (rs : List FullRow) (xs : List ℤ) → first_broken_row k rs xs ≡ None → AllByRecursion (MeetsRow 1 xs) rs
 rows_met k [] xs e = tt
 rows_met k (r ∷ rs) xs e =
     let a = activity r.terms xs in
@@ -96,7 +96,7 @@ rows_met k (r ∷ rs) xs e =
     let sides = and_parts (above_lower r.lower a) (below_upper r.upper a) passes.0 in
     (record { from = above_met r.lower a sides.0; to = below_met r.upper a sides.1 }, rows_met (suc k) rs xs passes.1)
 
-rows_pass : (k : ℕ) (rs : List FullRow) (xs : List ℤ) → All (MeetsRow 1 xs) rs → first_broken_row k rs xs ≡ None
+rows_pass : (k : ℕ) (rs : List FullRow) (xs : List ℤ) → AllByRecursion (MeetsRow 1 xs) rs → first_broken_row k rs xs ≡ None
 rows_pass k [] xs m = refl
 rows_pass k (r ∷ rs) xs m =
     let a = activity r.terms xs in

@@ -1,7 +1,7 @@
 //! The activities of the rows against their sides.
 ghost use Rattle.std.specs.Prelude.{◌≡◌, pos, ◌*ℤ◌, None, slice_index_or};
 ghost use Rattle.std.specs.List.{slice_get};
-ghost use Rattle.books.specs.Schedules.{activity as row-activity};
+ghost use Rattle.books.specs.Schedules.{activity as row_activity};
 ghost use Rattle.certificates.specs.Values.{quantities};
 ghost use Rattle.certificates.specs.Checks.{first_broken_column, above_lower, below_upper, within_sides, first_broken_row};
 ghost use Rattle.schedules.specs.Turns.{passed, broken_row, terms_of};
@@ -33,7 +33,7 @@ fn term_product(values: &[u8], term: Term) -> i64
 /// The sum of coefficient times number over the terms of a row, where every number lies within its column's limits.
 fn activity_of<B: Book>(book: &B, i: usize, values: &[u8]) -> i64
     requires { first_broken_column 0 (B.Book.meaning book.now).columns (quantities values.now) ≡ None }
-    ensures { result ≡ row-activity (terms_of (slice_get (B.Book.meaning book.now).rows i)) (quantities values.now) }
+    ensures { result ≡ row_activity (terms_of (slice_get (B.Book.meaning book.now).rows i)) (quantities values.now) }
 {
     let mut k = 0;
     let mut sum = 0;

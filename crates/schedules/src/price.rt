@@ -1,7 +1,7 @@
 //! The net benefit of a schedule.
 ghost use Rattle.std.specs.Prelude.{◌≡◌, true, length, None, Ok};
 ghost use Rattle.std.specs.List.{slice_get};
-ghost use Rattle.books.specs.Schedules.{benefit as net-benefit};
+ghost use Rattle.books.specs.Schedules.{benefit as net_benefit};
 ghost use Rattle.certificates.specs.Values.{quantities};
 ghost use Rattle.certificates.specs.Checks.{unless, right_count, first_broken_column, benefit_reaches, beyond_benefit};
 ghost use Rattle.schedules.specs.Turns.{gain_by};
@@ -25,7 +25,7 @@ fn gain<B: Book>(book: &B, j: usize, value: i32) -> i64
 pub(crate) fn net_benefit<B: Book>(book: &B, values: &[u8]) -> i64
     requires count { right_count 4 (length (B.Book.meaning book.now).columns) values.now ≡ true }
     requires limits { first_broken_column 0 (B.Book.meaning book.now).columns (quantities values.now) ≡ None }
-    ensures { result ≡ net-benefit (B.Book.meaning book.now).columns (quantities values.now) }
+    ensures { result ≡ net_benefit (B.Book.meaning book.now).columns (quantities values.now) }
 {
     let mut rest = values;
     let mut j = 0;

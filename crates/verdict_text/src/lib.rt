@@ -1,3 +1,5 @@
 //! The text of verdicts.
+#![tactic(auto)]
+
 pub mod output;
 pub mod text;

@@ -1,5 +1,5 @@
 -- What becomes of an input: a case, and then certificates.
-use Rattle.std.specs.Prelude.{◌≡◌, ℕ, ◌<◌, ◌≤◌, List, map, length, vec_items}
+use Rattle.std.specs.Prelude.{ℕ, ◌<◌, ◌≤◌, List, map, length, vec_items}
 use Rattle.fields.specs.Files.{IsFile}
 use Rattle.case_fields.specs.Entries.{Entry}
 use Rattle.case_fields.specs.Cases.{case_format}

@@ -1,4 +1,6 @@
 //! What the rules say of the worked case.
+#![tactic(auto)]
+
 ghost use Rattle.worked_case.specs.Worked.{WorkedLists};
 ghost use Rattle.worked_case.specs.Outcomes.{WorkedOutcomes};
 

@@ -18,7 +18,7 @@ const ONE_SIDED: [u8; 8] = [3, 4, 12, 13, 16, 17, 18, 19];
 fn main() -> ExitCode {
     let arguments: Vec<String> = std::env::args().skip(1).collect();
     let (seed, count, binary) = match arguments.as_slice() {
-        [seed, count] => (seed, count, "target/bin/verdict"),
+        [seed, count] => (seed, count, "crates/verdict/out/verdict"),
         [seed, count, binary] => (seed, count, binary.as_str()),
         _ => return usage(),
     };

@@ -1,7 +1,7 @@
 //! Opening a docket and reading what stands.
 ghost use Rattle.std.specs.Prelude.{◌≡◌, [], IfOk, None};
 ghost use Rattle.docket.specs.Standings.{StandingOf};
-ghost use Rattle.docket.specs.Labels.{standing_by, label_in as label_of, figure_in as figure-of};
+ghost use Rattle.docket.specs.Labels.{standing_by, label_in as label_of, figure_in as figure_of};
 
 use crate::docket::Docket;
 use crate::gap::gap_of;
@@ -20,7 +20,7 @@ fn label_in(of: Option<Labelled>) -> Option<u32>
 }
 
 fn figure_in(of: Option<Labelled>) -> Option<i64>
-    ensures { result ≡ figure-of of }
+    ensures { result ≡ figure_of of }
 {
     match of {
         Some(x) => Some(x.figure),

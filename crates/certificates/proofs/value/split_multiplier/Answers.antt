@@ -5,5 +5,5 @@ use Rattle.certificates.proofs.value.split_multiplier.Goals as goal
 
 pub returns : goal.returns
 returns c =
-    let fits : SFits w64 c.from-be-bytes.result = search rules in
-    multipliers_more _ _ (search rules) (to_z-of_z w64 _ fits ∙ c.from-be-bytes.ensures)
+    let fits : SFits w64 c.from_be_bytes.result = search rules in
+    multipliers_more _ _ (search rules) (to_z-of_z w64 _ fits ∙ c.from_be_bytes.ensures)

@@ -5,5 +5,5 @@ use Rattle.certificates.proofs.value.split_quantity.Goals as goal
 
 pub returns : goal.returns
 returns c =
-    let fits : SFits w32 c.from-be-bytes.result = search rules in
-    quantities_more _ _ (search rules) (to_z-of_z w32 _ fits ∙ c.from-be-bytes.ensures)
+    let fits : SFits w32 c.from_be_bytes.result = search rules in
+    quantities_more _ _ (search rules) (to_z-of_z w32 _ fits ∙ c.from_be_bytes.ensures)

@@ -1,12 +1,12 @@
-use Rattle.std.proofs.Common.{sym, ap, ◌∙◌, rules}
+use Rattle.std.proofs.Common.{ap, ◌∙◌}
 use Rattle.std.proofs.lemmas.Result.{err_from_is_err_and}
 use Rattle.docket.specs.Labels.{standing_by}
 use Rattle.docket.proofs.Running.{turn, ended}
 use Rattle.docket.proofs.run.judge_calls.Goals as goal
 
-pub returns-in-err-push : goal.returns-in-err-push
-returns-in-err-push g c =
-    let p = err_from_is_err_and c.from-residual-in-err-push.result c.from-residual-in-err-push.ensures.1 in rw p.1 tt
+pub returns-in_err-push : goal.returns-in_err-push
+returns-in_err-push g c =
+    let p = err_from_is_err_and c.from_residual-in_err-push.result c.from_residual-in_err-push.ensures.1 in rw p.1 tt
 
 pub loop-call-preserved : goal.loop-call-preserved
 loop-call-preserved g c =
@@ -16,7 +16,7 @@ loop-call-preserved g c =
     let d = c.loop-call.docket in
     let e = c.lay-verdict.new.self in (
       turn (m c.args.book.now) (m d.book.now) c.args.calls.now c.loop-call.call-index _ (standing_by d.best d.bound) (ap m inv.1) _ _ c.lay-verdict.result (standing_by e.best e.bound) c.standing-standing.result
-          c.loop-call-test.true inv.0 lay.verdict lay.history c.standing-standing.ensures c.in-ok-push.ensures.items,
+          c.loop-call-test.true inv.0 lay.verdict lay.history c.standing-standing.ensures c.in_ok-push.ensures.items,
       lay.book ∙ inv.1,
     )
 

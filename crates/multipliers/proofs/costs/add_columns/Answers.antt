@@ -13,15 +13,15 @@ bounds-costs-j g c =
     let below = nth_below b.columns c.loop-column.j c.in-Some.column (sym c.in-Some.ensures) in
     search rules
 
-pub offset-bounds-costs-j : goal.offset-bounds-costs-j
-offset-bounds-costs-j g c =
+pub offset_bounds-costs-j : goal.offset_bounds-costs-j
+offset_bounds-costs-j g c =
     let b = g.B.Book.meaning c.args.book.now in
     let below = nth_below b.columns c.loop-column.j c.in-Some.column (sym c.in-Some.ensures) in
     let few = (sound_parts b (g.met.B.Book.kept c.args.book.now)).few_columns in
     record { fits = omega (arith, below, few) }
 
-pub overflow-add-j : goal.overflow-add-j
-overflow-add-j g c =
+pub overflow_add-j : goal.overflow_add-j
+overflow_add-j g c =
     let b = g.B.Book.meaning c.args.book.now in
     let below = nth_below b.columns c.loop-column.j c.in-Some.column (sym c.in-Some.ensures) in
     let few = (sound_parts b (g.met.B.Book.kept c.args.book.now)).few_columns in
@@ -37,19 +37,19 @@ loop-column-preserved g c =
     let cs = (g.B.Book.meaning c.args.book.now).columns in
     let tab = c.args.costs.now in
     let j = c.loop-column.j in
-    let fits : SFits w64 c.in-ok-sum.sum = search rules in
+    let fits : SFits w64 c.in_ok-sum.sum = search rules in
     ap (table_total (j + 1) (drop (j + 1) cs) tab) (to_z-of_z w64 _ fits)
-    ∙ column_goes cs j tab _ _ c.loop-column.invariant c.in-Some.column (sym c.in-Some.ensures) c.in-ok-sum.sum c.in-ok-sum.ensures
+    ∙ column_goes cs j tab _ _ c.loop-column.invariant c.in-Some.column (sym c.in-Some.ensures) c.in_ok-sum.sum c.in_ok-sum.ensures
 
 pub returns : goal.returns
 returns g c =
     let cs = (g.B.Book.meaning c.args.book.now).columns in
     let tab = c.args.costs.now in
-    column_end cs c.loop-column.j tab _ _ c.loop-column.invariant (sym c.in-default.ensures) ∙ ap (table_total 0 cs tab) (to_z-of_z w64 _ c.ranges.total)
+    column_end cs c.loop-column.j tab _ _ c.loop-column.invariant (sym c.in_default.ensures) ∙ ap (table_total 0 cs tab) (to_z-of_z w64 _ c.ranges.total)
 
-pub returns-in-err-sum : goal.returns-in-err-sum
-returns-in-err-sum g c =
+pub returns-in_err-sum : goal.returns-in_err-sum
+returns-in_err-sum g c =
     let cs = (g.B.Book.meaning c.args.book.now).columns in
     let tab = c.args.costs.now in
-    let p = err_from_is_err_and c.from-residual.result c.from-residual.ensures.1 in
-    rw (p.1, p.2) (column_stops cs c.loop-column.j tab _ _ c.loop-column.invariant c.in-Some.column (sym c.in-Some.ensures) _ c.in-err-sum.ensures ∙ ap (table_total 0 cs tab) (to_z-of_z w64 _ c.ranges.total))
+    let p = err_from_is_err_and c.from_residual.result c.from_residual.ensures.1 in
+    rw (p.1, p.2) (column_stops cs c.loop-column.j tab _ _ c.loop-column.invariant c.in-Some.column (sym c.in-Some.ensures) _ c.in_err-sum.ensures ∙ ap (table_total 0 cs tab) (to_z-of_z w64 _ c.ranges.total))

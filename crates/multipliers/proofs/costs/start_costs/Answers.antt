@@ -10,15 +10,15 @@ bounds-costs-j g c =
     let below = nth_below b.columns c.loop-column.j c.in-Some.column (sym c.in-Some.ensures) in
     search rules
 
-pub offset-bounds-costs-j : goal.offset-bounds-costs-j
-offset-bounds-costs-j g c =
+pub offset_bounds-costs-j : goal.offset_bounds-costs-j
+offset_bounds-costs-j g c =
     let b = g.B.Book.meaning c.args.book.now in
     let below = nth_below b.columns c.loop-column.j c.in-Some.column (sym c.in-Some.ensures) in
     let few = (sound_parts b (g.met.B.Book.kept c.args.book.now)).few_columns in
     record { fits = omega (arith, below, few) }
 
-pub overflow-add-j : goal.overflow-add-j
-overflow-add-j g c =
+pub overflow_add-j : goal.overflow_add-j
+overflow_add-j g c =
     let b = g.B.Book.meaning c.args.book.now in
     let below = nth_below b.columns c.loop-column.j c.in-Some.column (sym c.in-Some.ensures) in
     let few = (sound_parts b (g.met.B.Book.kept c.args.book.now)).few_columns in
@@ -32,9 +32,9 @@ loop-column-smaller g c =
 pub loop-column-preserved : goal.loop-column-preserved
 loop-column-preserved g c =
     let b = g.B.Book.meaning c.args.book.now in
-    start_turn b.columns c.loop-column.j c.loop-column.costs _ c.loop-column.invariant c.in-Some.column _ (sym c.in-Some.ensures) c.start-cost.ensures
+    start_turn b.columns c.loop-column.j c.loop-column.costs _ c.loop-column.invariant c.in-Some.column _ (sym c.in-Some.ensures) c.start_cost.ensures
 
 pub returns : goal.returns
 returns g c =
     let b = g.B.Book.meaning c.args.book.now in
-    start_end b.columns c.loop-column.j c.loop-column.costs _ c.loop-column.invariant (sym c.in-default.ensures)
+    start_end b.columns c.loop-column.j c.loop-column.costs _ c.loop-column.invariant (sym c.in_default.ensures)

@@ -5,15 +5,15 @@ use Rattle.multipliers.proofs.Turns.{nth_below}
 use Rattle.multipliers.proofs.Passes.{term_is, term_column, term_early, term_turn, term_end}
 use Rattle.multipliers.proofs.costs.subtract_terms.Goals as goal
 
-pub subtract-at-requires : goal.subtract-at-requires
-subtract-at-requires g c =
+pub subtract_at-requires : goal.subtract_at-requires
+subtract_at-requires g c =
     let b = g.B.Book.meaning c.args.book.now in
     let at = sym (c.in-Some.ensures ∙ term_is b c.args.i c.loop-term.k) in
     let h = term_column b (g.met.B.Book.kept c.args.book.now) c.args.i c.loop-term.k c.in-Some.term at in
     omega (arith, h, c.requires, c.loop-term.auto.costs)
 
-pub overflow-add-k : goal.overflow-add-k
-overflow-add-k g c =
+pub overflow_add-k : goal.overflow_add-k
+overflow_add-k g c =
     let b = g.B.Book.meaning c.args.book.now in
     let at = sym (c.in-Some.ensures ∙ term_is b c.args.i c.loop-term.k) in
     let h = term_early b (g.met.B.Book.kept c.args.book.now) c.args.i c.loop-term.k c.in-Some.term at in
@@ -30,11 +30,11 @@ loop-term-preserved g c =
     let b = g.B.Book.meaning c.args.book.now in
     let t = c.in-Some.term in
     let at = sym (c.in-Some.ensures ∙ term_is b c.args.i c.loop-term.k) in
-    term_turn (terms_of b c.args.i) c.loop-term.k _ c.loop-term.costs _ c.loop-term.invariant t _ at c.subtract-at.ensures
+    term_turn (terms_of b c.args.i) c.loop-term.k _ c.loop-term.costs _ c.loop-term.invariant t _ at c.subtract_at.ensures
 
 pub returns : goal.returns
 returns g c =
     let b = g.B.Book.meaning c.args.book.now in
     let ts = terms_of b c.args.i in
-    term_end ts c.loop-term.k _ c.loop-term.costs _ c.loop-term.invariant (sym (c.in-default.ensures ∙ term_is b c.args.i c.loop-term.k))
+    term_end ts c.loop-term.k _ c.loop-term.costs _ c.loop-term.invariant (sym (c.in_default.ensures ∙ term_is b c.args.i c.loop-term.k))
     ∙ ap (λ z. terms_taken ts z c.args.costs.now) (to_z-of_z w64 _ c.ranges.y)

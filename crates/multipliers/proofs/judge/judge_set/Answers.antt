@@ -6,17 +6,17 @@ pub returns : goal.returns
 returns g c =
     let b = g.B.Book.meaning c.args.book.now in
     let vs = c.args.values.now in
-    let is = counted b vs c.row-count.result c.judge-multipliers.result c.row-count.ensures c.if-not-is-right-count.ensures c.judge-multipliers.ensures.answer in
+    let is = counted b vs c.row_count.result c.judge_multipliers.result c.row_count.ensures c.if-not-is_right_count.ensures c.judge_multipliers.ensures.answer in
     record {
       answer = is;
-      same = c.judge-multipliers.ensures.same;
+      same = c.judge_multipliers.ensures.same;
       passes = answer_passes b vs _ is;
       accepts = λ v count passes. is ∙ passes_accepted b vs v count passes;
     }
 
-pub returns-then-not-is-right-count : goal.returns-then-not-is-right-count
-returns-then-not-is-right-count g c =
+pub returns-then-not-is_right_count : goal.returns-then-not-is_right_count
+returns-then-not-is_right_count g c =
     let b = g.B.Book.meaning c.args.book.now in
     let vs = c.args.values.now in
-    let is = miscounted b vs c.row-count.result c.row-count.ensures c.if-not-is-right-count.ensures in
+    let is = miscounted b vs c.row_count.result c.row_count.ensures c.if-not-is_right_count.ensures in
     record { answer = is; same = search rules; passes = tt; accepts = λ v count passes. is ∙ passes_accepted b vs v count passes }

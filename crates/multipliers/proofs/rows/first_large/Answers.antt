@@ -5,27 +5,27 @@ use Rattle.certificates.specs.Checks.{first_large}
 use Rattle.multipliers.proofs.Turns.{large_at, large_one, large_end, goes, stops, row_absent}
 use Rattle.multipliers.proofs.rows.first_large.Goals as goal
 
-pub returns-in-err-row : goal.returns-in-err-row
-returns-in-err-row g c =
+pub returns-in_err-row : goal.returns-in_err-row
+returns-in_err-row g c =
     let b = g.B.Book.meaning c.args.book.now in
     let i = c.loop-y.i in
-    rw c.from-residual.ensures (sym (ap (λ rs. first_large i rs (multipliers c.loop-y.rest.now)) (row_absent b i c.in-err-row.ensures)) ∙ c.loop-y.invariant.0)
+    rw c.from_residual.ensures (sym (ap (λ rs. first_large i rs (multipliers c.loop-y.rest.now)) (row_absent b i c.in_err-row.ensures)) ∙ c.loop-y.invariant.0)
 
-pub returns-in-Some-size-fault : goal.returns-in-Some-size-fault
-returns-in-Some-size-fault g c =
+pub returns-in-Some-size_fault : goal.returns-in-Some-size_fault
+returns-in-Some-size_fault g c =
     let b = g.B.Book.meaning c.args.book.now in
     let i = c.loop-y.i in
-    let r = c.in-ok-row.row in
+    let r = c.in_ok-row.row in
     let fits : SFits w64 c.in-Some.y = search rules in
-    stops first_large large_at large_one b i c.in-Some.y _ _ r _ c.loop-y.invariant.0 c.in-Some.ensures.0 c.in-ok-row.ensures _ (c.in-Some-size-fault.ensures ∙ ap (large_at i r) (to_z-of_z w64 _ fits))
+    stops first_large large_at large_one b i c.in-Some.y _ _ r _ c.loop-y.invariant.0 c.in-Some.ensures.0 c.in_ok-row.ensures _ (c.in-Some-size_fault.ensures ∙ ap (large_at i r) (to_z-of_z w64 _ fits))
 
 pub loop-y-preserved : goal.loop-y-preserved
 loop-y-preserved g c =
     let b = g.B.Book.meaning c.args.book.now in
     let i = c.loop-y.i in
-    let r = c.in-ok-row.row in
+    let r = c.in_ok-row.row in
     let fits : SFits w64 c.in-Some.y = search rules in (
-      goes first_large large_at large_one b i c.in-Some.y _ _ r _ c.loop-y.invariant.0 c.in-Some.ensures.0 c.in-ok-row.ensures (c.in-default-size-fault.ensures ∙ ap (large_at i r) (to_z-of_z w64 _ fits)),
+      goes first_large large_at large_one b i c.in-Some.y _ _ r _ c.loop-y.invariant.0 c.in-Some.ensures.0 c.in_ok-row.ensures (c.in_default-size_fault.ensures ∙ ap (large_at i r) (to_z-of_z w64 _ fits)),
       omega (arith, c.in-Some.ensures.1, c.loop-y.invariant.1),
     )
 
@@ -33,4 +33,4 @@ pub returns : goal.returns
 returns g c =
     let b = g.B.Book.meaning c.args.book.now in
     let i = c.loop-y.i in
-    large_end i (drop i b.rows) (multipliers c.loop-y.rest.now) _ c.in-default.ensures.1 c.loop-y.invariant.0
+    large_end i (drop i b.rows) (multipliers c.loop-y.rest.now) _ c.in_default.ensures.1 c.loop-y.invariant.0

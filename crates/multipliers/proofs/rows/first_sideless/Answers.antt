@@ -5,27 +5,27 @@ use Rattle.certificates.specs.Checks.{first_sideless}
 use Rattle.multipliers.proofs.Turns.{sideless_at, sideless_one, sideless_end, goes, stops, row_absent}
 use Rattle.multipliers.proofs.rows.first_sideless.Goals as goal
 
-pub returns-in-err-row : goal.returns-in-err-row
-returns-in-err-row g c =
+pub returns-in_err-row : goal.returns-in_err-row
+returns-in_err-row g c =
     let b = g.B.Book.meaning c.args.book.now in
     let i = c.loop-y.i in
-    rw c.from-residual.ensures (sym (ap (λ rs. first_sideless i rs (multipliers c.loop-y.rest.now)) (row_absent b i c.in-err-row.ensures)) ∙ c.loop-y.invariant.0)
+    rw c.from_residual.ensures (sym (ap (λ rs. first_sideless i rs (multipliers c.loop-y.rest.now)) (row_absent b i c.in_err-row.ensures)) ∙ c.loop-y.invariant.0)
 
-pub returns-in-Some-side-fault : goal.returns-in-Some-side-fault
-returns-in-Some-side-fault g c =
+pub returns-in-Some-side_fault : goal.returns-in-Some-side_fault
+returns-in-Some-side_fault g c =
     let b = g.B.Book.meaning c.args.book.now in
     let i = c.loop-y.i in
-    let r = c.in-ok-row.row in
+    let r = c.in_ok-row.row in
     let fits : SFits w64 c.in-Some.y = search rules in
-    stops first_sideless sideless_at sideless_one b i c.in-Some.y _ _ r _ c.loop-y.invariant.0 c.in-Some.ensures.0 c.in-ok-row.ensures _ (c.in-Some-side-fault.ensures ∙ ap (sideless_at i r) (to_z-of_z w64 _ fits))
+    stops first_sideless sideless_at sideless_one b i c.in-Some.y _ _ r _ c.loop-y.invariant.0 c.in-Some.ensures.0 c.in_ok-row.ensures _ (c.in-Some-side_fault.ensures ∙ ap (sideless_at i r) (to_z-of_z w64 _ fits))
 
 pub loop-y-preserved : goal.loop-y-preserved
 loop-y-preserved g c =
     let b = g.B.Book.meaning c.args.book.now in
     let i = c.loop-y.i in
-    let r = c.in-ok-row.row in
+    let r = c.in_ok-row.row in
     let fits : SFits w64 c.in-Some.y = search rules in (
-      goes first_sideless sideless_at sideless_one b i c.in-Some.y _ _ r _ c.loop-y.invariant.0 c.in-Some.ensures.0 c.in-ok-row.ensures (c.in-default-side-fault.ensures ∙ ap (sideless_at i r) (to_z-of_z w64 _ fits)),
+      goes first_sideless sideless_at sideless_one b i c.in-Some.y _ _ r _ c.loop-y.invariant.0 c.in-Some.ensures.0 c.in_ok-row.ensures (c.in_default-side_fault.ensures ∙ ap (sideless_at i r) (to_z-of_z w64 _ fits)),
       omega (arith, c.in-Some.ensures.1, c.loop-y.invariant.1),
     )
 
@@ -33,4 +33,4 @@ pub returns : goal.returns
 returns g c =
     let b = g.B.Book.meaning c.args.book.now in
     let i = c.loop-y.i in
-    sideless_end i (drop i b.rows) (multipliers c.loop-y.rest.now) _ c.in-default.ensures.1 c.loop-y.invariant.0
+    sideless_end i (drop i b.rows) (multipliers c.loop-y.rest.now) _ c.in_default.ensures.1 c.loop-y.invariant.0

@@ -4,22 +4,22 @@ use Rattle.std.proofs.lemmas.Int.{to_z-of_z}
 use Rattle.schedules.proofs.Verdicts.{answer_passes, answer_accepts, columns_refuse, rows_refuse, benefit_answers}
 use Rattle.schedules.proofs.judge.judge_schedule.Goals as goal
 
-pub returns-in-err-check-columns : goal.returns-in-err-check-columns
-returns-in-err-check-columns g c =
+pub returns-in_err-check_columns : goal.returns-in_err-check_columns
+returns-in_err-check_columns g c =
     let b = g.B.Book.meaning c.args.book.now in
     let vs = c.args.values.now in
-    let p = err_from_is_err_and c.from-residual.result c.from-residual.ensures.1 in
-    let refused = columns_refuse b vs (search rules) _ c.in-err-check-columns.ensures in
+    let p = err_from_is_err_and c.from_residual.result c.from_residual.ensures.1 in
+    let refused = columns_refuse b vs (search rules) _ c.in_err-check_columns.ensures in
     let answer = p.1 ∙ ap Err p.2 ∙ refused in
     record { answer = answer; passes = answer_passes b (g.met.B.Book.kept _) vs _ answer; accepts = answer_accepts b vs _ answer }
 
-pub returns-in-err-check-rows : goal.returns-in-err-check-rows
-returns-in-err-check-rows g c =
+pub returns-in_err-check_rows : goal.returns-in_err-check_rows
+returns-in_err-check_rows g c =
     let b = g.B.Book.meaning c.args.book.now in
     let vs = c.args.values.now in
-    let limits = c.in-ok-check-columns.ensures in
-    let p = err_from_is_err_and c.from-residual-in-err-check-rows.result c.from-residual-in-err-check-rows.ensures.1 in
-    let refused = rows_refuse b vs (search rules) _ limits _ c.in-err-check-rows.ensures in
+    let limits = c.in_ok-check_columns.ensures in
+    let p = err_from_is_err_and c.from_residual-in_err-check_rows.result c.from_residual-in_err-check_rows.ensures.1 in
+    let refused = rows_refuse b vs (search rules) _ limits _ c.in_err-check_rows.ensures in
     let answer = p.1 ∙ ap Err p.2 ∙ refused in
     record { answer = answer; passes = answer_passes b (g.met.B.Book.kept _) vs _ answer; accepts = answer_accepts b vs _ answer }
 
@@ -27,9 +27,9 @@ pub returns : goal.returns
 returns g c =
     let b = g.B.Book.meaning c.args.book.now in
     let vs = c.args.values.now in
-    let fits : SFits w64 c.net-benefit-figure.result = search rules in
-    let limits = c.in-ok-check-columns.ensures in
-    let sides = c.in-ok-check-rows.ensures in
-    let is = to_z-of_z w64 _ fits ∙ c.net-benefit-figure.ensures in
+    let fits : SFits w64 c.net_benefit-figure.result = search rules in
+    let limits = c.in_ok-check_columns.ensures in
+    let sides = c.in_ok-check_rows.ensures in
+    let is = to_z-of_z w64 _ fits ∙ c.net_benefit-figure.ensures in
     let answer = c.reached.ensures ∙ benefit_answers b vs (search rules) _ limits _ sides _ is in
     record { answer = answer; passes = answer_passes b (g.met.B.Book.kept _) vs _ answer; accepts = answer_accepts b vs _ answer }

@@ -32,8 +32,8 @@ few g c =
     let count = count_is (length b.columns) c.args.values.now c.requires.count in
     omega arith
 
-pub overflow-add-sum : goal.overflow-add-sum
-overflow-add-sum g c =
+pub overflow_add-sum : goal.overflow_add-sum
+overflow_add-sum g c =
     let h = few g c in
     more_fits 200000000000000 c.loop-value.j (omega arith) _ _ c.loop-value.invariant.3 (gain_near g c)
 
@@ -60,4 +60,4 @@ pub returns : goal.returns
 returns g c =
     let cs = (g.B.Book.meaning c.args.book.now).columns in
     let j = c.loop-value.j in
-    sum_ends _ _ _ c.loop-value.invariant.2 (ap (benefit (drop j cs)) c.in-default.ensures.1 ∙ benefit_end (drop j cs))
+    sum_ends _ _ _ c.loop-value.invariant.2 (ap (benefit (drop j cs)) c.in_default.ensures.1 ∙ benefit_end (drop j cs))

@@ -5,8 +5,8 @@ use Rattle.verdict_text.proofs.output.lines_of.Goals.{then-loop-k-test+else-k-an
 
 pub loop-k-preserved : goal.loop-k-preserved
 loop-k-preserved c =
-    turn c.args.calls.now c.args.answers.now c.loop-k.k (string_bytes c.loop-k.text) c.loop-k.invariant _ _ c.as-str.result.now _
-    c.loop-k-test.true c.if-k-answers.true (c.as-str.ensures.value ∙ c.in-ok-line.ensures) c.in-ok-push-str.ensures.bytes
+    turn c.args.calls.now c.args.answers.now c.loop-k.k (string_bytes c.loop-k.text) c.loop-k.invariant _ _ c.as_str.result.now _
+    c.loop-k-test.true c.if-k-answers.true (c.as_str.ensures.value ∙ c.in_ok-line.ensures) c.in_ok-push_str.ensures.bytes
 
 pub returns : goal.returns
 returns c =

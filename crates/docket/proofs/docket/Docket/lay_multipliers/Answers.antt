@@ -5,12 +5,12 @@ use Rattle.docket.proofs.Same.{docket_same}
 use Rattle.docket.proofs.Laying.{refused_right, refused_stands, set_right, set_fits, set_stands}
 use Rattle.docket.proofs.docket.Docket.lay_multipliers.Goals as goal
 
-pub invariant-of-self : goal.invariant-of-self
-invariant-of-self g c =
+pub invariant_of-self : goal.invariant_of-self
+invariant_of-self g c =
     let d = c.args.self.now in
     let b = g.B.Book.meaning d.book.now in
     let kept = g.met.B.Book.kept d.book.now in
-    (d.small, (set_fits b kept c.args.field.now c.in-Ok.new c.in-Ok.ensures.told d.bound _ c.lower-self.ensures d.near, tt))
+    record { small = d.small; near = set_fits b kept c.args.field.now c.in-Ok.new c.in-Ok.ensures.told d.bound _ c.lower-self.ensures d.near }
 
 pub returns-in-Ok : goal.returns-in-Ok
 returns-in-Ok g c =
@@ -34,5 +34,5 @@ returns-in-Err g c =
       verdict = refused_right b kept c.args.field.now Multipliers c.in-Err.fault c.in-Err.ensures.told _ c.refusal.ensures;
       history = refused_stands b kept c.args.field.now d.best d.bound Multipliers c.in-Err.fault c.in-Err.ensures.told;
       book = refl;
-      refused = λ e. docket_same _ d refl c.set-figure.ensures.same refl refl;
+      refused = λ e. docket_same _ d refl c.set_figure.ensures.same refl refl;
     }

@@ -4,12 +4,12 @@ use Rattle.fields.specs.declared.certificate.CertificateKind.TheVariants.{Schedu
 use Rattle.docket.proofs.Laying.{refused_right, refused_stands, schedule_right, schedule_fits, schedule_stands}
 use Rattle.docket.proofs.docket.Docket.lay_schedule.Goals as goal
 
-pub invariant-of-self : goal.invariant-of-self
-invariant-of-self g c =
+pub invariant_of-self : goal.invariant_of-self
+invariant_of-self g c =
     let d = c.args.self.now in
     let b = g.B.Book.meaning d.book.now in
     let kept = g.met.B.Book.kept d.book.now in
-    (schedule_fits b kept c.args.field.now c.in-Ok.new c.in-Ok.ensures d.best _ c.greater-self.ensures d.small, (d.near, tt))
+    record { small = schedule_fits b kept c.args.field.now c.in-Ok.new c.in-Ok.ensures d.best _ c.greater-self.ensures d.small; near = d.near }
 
 pub returns-in-Ok : goal.returns-in-Ok
 returns-in-Ok g c =

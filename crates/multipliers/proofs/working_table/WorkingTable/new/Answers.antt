@@ -6,7 +6,7 @@ use Rattle.multipliers.proofs.working_table.WorkingTable.new.Goals as goal
 
 pub loop-count-preserved : goal.loop-count-preserved
 loop-count-preserved c =
-    let p = c.in-ok-push.ensures in (
+    let p = c.in_ok-push.ensures in (
       p.len ∙ ap (λ n. n + 1) c.loop-count.invariant.0,
       ap (every is_clear) p.items ∙ every_push is_clear c.loop-count.costs.items nought c.loop-count.invariant.1 refl,
     )

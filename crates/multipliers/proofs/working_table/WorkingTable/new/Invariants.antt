@@ -4,4 +4,4 @@ use Rattle.multipliers.specs.Costs.{is_clear}
 use Rattle.multipliers.proofs.working_table.WorkingTable.new.Given as goal
 
 abbrev pub invariant-loop-count : goal.invariant-loop-count
-invariant-loop-count l = (vec_len l.costs ≡ l.-count) × (every is_clear (vec_items l.costs) ≡ true)
+invariant-loop-count l = (vec_len l.costs ≡ l._count) × (every is_clear (vec_items l.costs) ≡ true)
