@@ -1,3 +1,5 @@
 //! Tests of rows added to a book.
+#![tactic(auto)]
+
 #[cfg(test)]
 mod tests;
