@@ -1,3 +1,5 @@
 //! Tests of judging sets of multipliers.
+#![tactic(auto)]
+
 #[cfg(test)]
 mod tests;
