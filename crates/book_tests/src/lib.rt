@@ -8,7 +8,7 @@ mod limits;
 #[cfg(test)]
 mod line_case;
 #[cfg(test)]
-mod listings;
+mod listed;
 #[cfg(test)]
 mod refusals;
 #[cfg(test)]
