@@ -1,4 +1,6 @@
 //! Judges the certificates behind the case on standard input.
+#![tactic(auto)]
+
 use std::io::Read;
 use verdict_text::output::output_of;
 use verdicts::outcome::INPUT_LIMIT;
