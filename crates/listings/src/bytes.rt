@@ -2,7 +2,7 @@
 ghost use Rattle.std.specs.Prelude.{◌≡◌, IfOk};
 ghost use Rattle.listings.specs.Listed.{listing_of};
 
-use crate::write::{listing_length, write_listing};
+use crate::write::{listing_length, put_listing};
 use books::book::Book;
 use std::alloc::{AllocError, Global};
 
@@ -11,8 +11,6 @@ pub fn listing_bytes<B: Book>(heap: Global, book: &B) -> Result<Vec<u8>, AllocEr
     ensures { IfOk result (λ v. v.items ≡ listing_of (B.Book.meaning book.now)) }
 {
     let mut bytes = vec![in heap; 0u8; listing_length(book)]?;
-    match write_listing(book, &mut bytes) {
-        Ok(_) => Ok(bytes),
-        Err(_) => Err(AllocError),
-    }
+    put_listing(book, &mut bytes);
+    Ok(bytes)
 }

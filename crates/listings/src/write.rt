@@ -65,6 +65,15 @@ fn put_rows<B: Book>(book: &B, out: &mut [u8], start: usize) -> usize
     at
 }
 
+/// Writes the listing of a book in front of a buffer that has room for it, and returns its length.
+pub(crate) fn put_listing<B: Book>(book: &B, out: &mut [u8]) -> usize
+    requires { length (listing_of (B.Book.meaning book.now)) ≤ length out.old }
+    ensures { Wrote out.old 0 (listing_of (B.Book.meaning book.now)) out.new result }
+{
+    let at = put_columns(book, out, 0);
+    put_rows(book, out, at)
+}
+
 /// Writes the listing of a book in front of the buffer, and returns its length.
 /// A buffer that is shorter stays as it was.
 pub fn write_listing<B: Book>(book: &B, out: &mut [u8]) -> Result<usize, BookFault>
@@ -74,6 +83,5 @@ pub fn write_listing<B: Book>(book: &B, out: &mut [u8]) -> Result<usize, BookFau
     if out.len() < needed {
         return Err(BookFault::ShortBuffer { needed });
     }
-    let at = put_columns(book, out, 0);
-    Ok(put_rows(book, out, at))
+    Ok(put_listing(book, out))
 }

@@ -1,7 +1,7 @@
 //! Asking a table.
 ghost use Rattle.std.specs.Prelude.{◌≡◌, ℕ, ◌<◌, ◌≤◌, false, length, slice_index_or};
 ghost use Rattle.std.specs.List.{slice_get};
-ghost use Rattle.case_columns.specs.Placed.{start as start_of_lem, among};
+ghost use Rattle.case_columns.specs.Placed.{start as start_of, among};
 ghost use Rattle.case_columns.specs.Tables.{columns_in};
 ghost use Rattle.case_columns.specs.declared.name.Named.{Named as ANamed};
 
@@ -29,7 +29,7 @@ impl Table {
 
     /// The first column of a record, or the number of columns past the last record.
     fn start(&self, place: usize) -> usize
-        ensures { result ≡ start_of_lem self.now.named.items self.now.starts.items place }
+        ensures { result ≡ start_of self.now.named.items self.now.starts.items place }
     {
         if place < self.starts.len() {
             self.starts[place]

@@ -13,9 +13,10 @@ whole k n bs old new more long same written e =
     let less : length new ≤ k = omega arith in
     take-append-le k new (drop (length new) more) fits ∙ take_all k new less ∙ full
 
-pub returns-in-Ok : goal.returns-in-Ok
-returns-in-Ok g c =
+pub returns : goal.returns
+returns g c =
     let bs = listing_of (g.B.Book.meaning c.args.book.now) in
-    let w = c.in-Ok.ensures in
+    let w = c.put_listing.ensures in
     let same : c.in_ok-bytes.bytes.len ≡ length bs = c.in_ok-bytes.ensures.len ∙ c.listing_length.ensures in
-    whole c.in_ok-bytes.bytes.len c.in-Ok.field-0 bs c.deref_mut.result.now c.write_listing.new.out c.in_ok-bytes.bytes.items c.deref_mut.ensures.len same w.0 w.2
+    let n : c.put_listing.result ≡ length bs = omega (arith, w.next_is) in
+    whole c.in_ok-bytes.bytes.len c.put_listing.result bs c.deref_mut.result.now c.put_listing.new.out c.in_ok-bytes.bytes.items c.deref_mut.ensures.len same n w.bytes
