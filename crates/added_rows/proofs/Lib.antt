@@ -1,1 +1,4 @@
+pub mod Stored
 pub mod Judged
+pub mod Layered
+pub mod Answered

@@ -3,5 +3,3 @@ pub mod OwnRows
 pub mod Adding
 pub mod Meaning
 pub mod Layered
-pub mod Answered
-pub mod Stored

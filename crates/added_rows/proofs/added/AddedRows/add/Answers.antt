@@ -1,8 +1,8 @@
 use Rattle.std.proofs.Common.{◌+◌, refl}
 use Rattle.added_rows.specs.Adding.{row_of}
 use Rattle.added_rows.specs.Meaning.{own_count, means}
-use Rattle.added_rows.specs.Answered.{Seen, no_room, unfit, fit}
-use Rattle.added_rows.specs.Layered.{seen, Put, put_sound, put_counted, put_rows}
+use Rattle.added_rows.proofs.Answered.{Seen, no_room, unfit, fit}
+use Rattle.added_rows.proofs.Layered.{seen, Put, put_sound, put_counted, put_rows}
 use Rattle.added_rows.proofs.added.AddedRows.add.Given as given
 use Rattle.added_rows.proofs.added.AddedRows.add.Goals as goal
 use Rattle.added_rows.proofs.added.AddedRows.add.Goals.{After-own_count-own, After-add}

@@ -1,6 +1,6 @@
 use Rattle.std.proofs.Common.{refl, ap}
 use Rattle.added_rows.specs.Adding.{row_of}
-use Rattle.added_rows.specs.Stored.{copied_long, copied_front}
+use Rattle.added_rows.proofs.Stored.{copied_long, copied_front}
 use Rattle.added_rows.proofs.table.AddedRow.new.Goals as goal
 
 pub invariant_of-result : goal.invariant_of-result

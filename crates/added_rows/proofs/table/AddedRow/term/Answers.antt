@@ -1,5 +1,5 @@
 use Rattle.std.proofs.Common.{sym}
-use Rattle.added_rows.specs.Stored.{term_at, term_past}
+use Rattle.added_rows.proofs.Stored.{term_at, term_past}
 use Rattle.added_rows.proofs.table.AddedRow.term.Goals as goal
 
 pub returns-then-k-self : goal.returns-then-k-self

@@ -2,7 +2,7 @@ use Rattle.std.proofs.Common.{◌≤◌, length, Some, sym, ap, ◌∙◌, arith
 use Rattle.std.specs.Option.{option_map}
 use Rattle.books.specs.Lists.{head}
 use Rattle.books.specs.declared.part.Row.{Row}
-use Rattle.added_rows.specs.Stored.{own_at, own_past}
+use Rattle.added_rows.proofs.Stored.{own_at, own_past}
 use Rattle.added_rows.proofs.table.Table.row.Goals as goal
 
 pub returns-then-i-len : goal.returns-then-i-len

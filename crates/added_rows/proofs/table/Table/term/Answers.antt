@@ -1,6 +1,6 @@
 use Rattle.std.proofs.Common.{◌≤◌, length, sym, ap, ◌∙◌, arith}
 use Rattle.books.specs.Lists.{term_in}
-use Rattle.added_rows.specs.Stored.{own_at, own_past}
+use Rattle.added_rows.proofs.Stored.{own_at, own_past}
 use Rattle.added_rows.proofs.table.Table.term.Goals as goal
 
 pub returns-then-i-len : goal.returns-then-i-len

@@ -1,7 +1,7 @@
 use Rattle.std.proofs.Common.{sym, ap, ◌∙◌}
 use Rattle.std.specs.Option.{option_map}
 use Rattle.books.specs.Lists.{head}
-use Rattle.added_rows.specs.Layered.{row_front, row_back}
+use Rattle.added_rows.proofs.Layered.{row_front, row_back}
 use Rattle.added_rows.proofs.added.answer.AddedRowsBook.row.Goals as goal
 
 pub returns-then-i-first : goal.returns-then-i-first

@@ -1,6 +1,6 @@
 use Rattle.std.proofs.Common.{sym, ap, ◌∙◌}
 use Rattle.books.specs.Lists.{term_in}
-use Rattle.added_rows.specs.Layered.{row_front, row_back}
+use Rattle.added_rows.proofs.Layered.{row_front, row_back}
 use Rattle.added_rows.proofs.added.answer.AddedRowsBook.term.Goals as goal
 
 pub returns-then-i-first : goal.returns-then-i-first
