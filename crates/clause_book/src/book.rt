@@ -1,6 +1,7 @@
 //! The book over a case.
 ghost use Rattle.std.specs.Prelude.{◌≡◌};
 ghost use Rattle.std.specs.List.{slice_get};
+ghost use Rattle.stored_book.specs.Books.{book_sound};
 ghost use Rattle.clause_book.specs.Books.{clause_lists, named_in};
 
 use books::book::Book;
@@ -29,7 +30,7 @@ impl ClauseBook {
 impl Book for ClauseBook {
     ghost meaning = { clause_lists };
 
-    ghost kept = { λ b. b.book.checked };
+    ghost kept = { λ b. book_sound b.book };
 
     fn column_count(&self) -> usize {
         self.book.column_count()

@@ -1,4 +1,5 @@
 //! A book that was read from a listing.
+ghost use Rattle.stored_book.specs.Books.{book_sound};
 ghost use Rattle.listings.specs.Books.{listed_lists};
 
 use books::book::Book;
@@ -15,7 +16,7 @@ pub struct ListedBook {
 impl Book for ListedBook {
     ghost meaning = { listed_lists };
 
-    ghost kept = { λ b. b.book.checked };
+    ghost kept = { λ b. book_sound b.book };
 
     fn column_count(&self) -> usize {
         self.book.column_count()

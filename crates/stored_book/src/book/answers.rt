@@ -1,5 +1,5 @@
 //! The five answers of a stored book, each in constant time.
-ghost use Rattle.stored_book.specs.Books.{book_lists};
+ghost use Rattle.stored_book.specs.Books.{book_lists, book_sound};
 
 use crate::book::StoredBook;
 use books::book::Book;
@@ -9,7 +9,7 @@ use listing_fields::term::Term;
 impl Book for StoredBook {
     ghost meaning = { book_lists };
 
-    ghost kept = { λ b. b.checked };
+    ghost kept = { book_sound };
 
     fn column_count(&self) -> usize {
         self.columns.len()
