@@ -31,6 +31,7 @@ pub fn difference(a: i64, b: i64) -> Option<i64>
 }
 
 /// Whether the product lies within the reach, by the signs.
+#[tactic(auto, using(crate::proofs::Signs::by_signs))]
 fn product_fits(a: i64, b: i64) -> bool
     ensures { result ≡ in_reach (a *ℤ b) }
 {
