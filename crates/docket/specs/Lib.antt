@@ -3,3 +3,4 @@ pub mod Calls
 pub mod Standings
 pub mod Labels
 pub mod Runs
+pub mod Docketed

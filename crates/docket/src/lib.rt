@@ -2,9 +2,7 @@
 #![tactic(auto)]
 
 pub mod docket;
-mod gap;
 mod judge;
-mod leader;
 pub mod run;
 pub mod standing;
 pub mod theorem;
