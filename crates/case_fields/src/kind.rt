@@ -1,9 +1,11 @@
 //! The kinds of case records, each with its tag and its layout.
 ghost use Rattle.std.specs.Prelude.{◌≡◌};
-ghost use Rattle.case_fields.specs.Kinds.{kind, tag_of, once, front, fewest, most, takes};
+ghost use Rattle.case_fields.specs.Kinds.{Names, tag_of, once, front, fewest, most, takes};
 
-/// The kind of a case record.
-#[derive(Clone, Copy, PartialEq, Eq, Debug)]
+use fields::fault::FaultKind;
+
+/// The kind of a case record, in the order of the tags.
+#[derive(Clone, Copy, PartialEq, Eq, PartialOrd, Ord, Debug)]
 pub enum RecordKind {
     Period,
     Node,
@@ -14,23 +16,27 @@ pub enum RecordKind {
     Requirement,
 }
 
-impl RecordKind {
-    /// The kind that a tag names, or none where no case record has the tag.
-    pub fn of(tag: u8) -> Option<RecordKind>
-        ensures { result ≡ kind tag }
-    {
+impl TryFrom<u8> for RecordKind {
+    type Error = FaultKind;
+
+    ghost try_from_gives = { Names };
+
+    /// The kind that a tag names, or the fault where no case record has the tag.
+    fn try_from(tag: u8) -> Result<RecordKind, FaultKind> {
         match tag {
-            1 => Some(RecordKind::Period),
-            2 => Some(RecordKind::Node),
-            3 => Some(RecordKind::Line),
-            4 => Some(RecordKind::EnergyOffer),
-            5 => Some(RecordKind::Bid),
-            6 => Some(RecordKind::RegulationOffer),
-            15 => Some(RecordKind::Requirement),
-            _ => None,
+            1 => Ok(RecordKind::Period),
+            2 => Ok(RecordKind::Node),
+            3 => Ok(RecordKind::Line),
+            4 => Ok(RecordKind::EnergyOffer),
+            5 => Ok(RecordKind::Bid),
+            6 => Ok(RecordKind::RegulationOffer),
+            15 => Ok(RecordKind::Requirement),
+            _ => Err(FaultKind::UnknownTag),
         }
     }
+}
 
+impl RecordKind {
     /// Its tag.
     pub fn tag(self) -> u8
         ensures { result ≡ tag_of self }

@@ -11,7 +11,6 @@ ghost use Rattle.case_fields.specs.Read.{Next};
 ghost use Rattle.case_fields.specs.Summaries.{SumsUp};
 
 use crate::kind::RecordKind;
-use crate::parse::parse;
 use crate::record::CaseRecord;
 use crate::summary::Summary;
 use fields::fault::{FaultKind, FieldFault, ReadError};
@@ -28,16 +27,14 @@ fn next_record<'a>(
         (λ k. First (checks case_format es input.now) k) }
 {
     let (field, rest) = cut_field(input)?;
-    let Some(kind) = RecordKind::of(field.tag) else {
-        return Err(FaultKind::UnknownTag);
-    };
+    let kind = RecordKind::try_from(field.tag)?;
     if !before.lets_follow(kind, field.tag) {
         return Err(FaultKind::TagOrder);
     }
     if !kind.takes(field.body.len()) {
         return Err(FaultKind::BadLength);
     }
-    let Some(record) = parse(kind, field.body) else {
+    let Some(record) = CaseRecord::parse(kind, field.body) else {
         return Err(FaultKind::BadLength);
     };
     if !record.is_in_range() {

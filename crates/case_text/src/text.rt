@@ -1,7 +1,9 @@
 //! The text of a case, a line for each record.
 use crate::outcome::Outcome;
 use case_fields::part::{Blocks, Points};
-use case_fields::record::CaseRecord;
+use case_fields::record::{
+    Bid, CaseRecord, EnergyOffer, Line, Node, Period, RegulationOffer, Requirement,
+};
 use std::fmt;
 
 /// How many records of each kind came so far.
@@ -28,27 +30,25 @@ impl Counts {
     /// The number of a record among those of its kind, or nought where a case has one of the kind.
     fn of(&self, record: CaseRecord<'_>) -> usize {
         match record {
-            CaseRecord::Node { .. } => self.nodes,
-            CaseRecord::Line { .. } => self.lines,
-            CaseRecord::EnergyOffer { .. } => self.energy_offers,
-            CaseRecord::Bid { .. } => self.bids,
-            CaseRecord::RegulationOffer { .. } => self.regulation_offers,
-            CaseRecord::Period { .. } | CaseRecord::Requirement { .. } => 0,
+            CaseRecord::Node(_) => self.nodes,
+            CaseRecord::Line(_) => self.lines,
+            CaseRecord::EnergyOffer(_) => self.energy_offers,
+            CaseRecord::Bid(_) => self.bids,
+            CaseRecord::RegulationOffer(_) => self.regulation_offers,
+            CaseRecord::Period(_) | CaseRecord::Requirement(_) => 0,
         }
     }
 
     fn note(&mut self, record: CaseRecord<'_>) {
         match record {
-            CaseRecord::Node { .. } => self.nodes = self.nodes.saturating_add(1),
-            CaseRecord::Line { .. } => self.lines = self.lines.saturating_add(1),
-            CaseRecord::EnergyOffer { .. } => self.energy_offers = self
-                .energy_offers
-                .saturating_add(1),
-            CaseRecord::Bid { .. } => self.bids = self.bids.saturating_add(1),
-            CaseRecord::RegulationOffer { .. } => {
+            CaseRecord::Node(_) => self.nodes = self.nodes.saturating_add(1),
+            CaseRecord::Line(_) => self.lines = self.lines.saturating_add(1),
+            CaseRecord::EnergyOffer(_) => self.energy_offers = self.energy_offers.saturating_add(1),
+            CaseRecord::Bid(_) => self.bids = self.bids.saturating_add(1),
+            CaseRecord::RegulationOffer(_) => {
                 self.regulation_offers = self.regulation_offers.saturating_add(1)
             }
-            CaseRecord::Period { .. } | CaseRecord::Requirement { .. } => {}
+            CaseRecord::Period(_) | CaseRecord::Requirement(_) => {}
         }
     }
 }
@@ -86,73 +86,83 @@ impl fmt::Display for Numbered<'_> {
     fn fmt<W: fmt::Write>(&self, f: &mut fmt::Formatter<W>) -> fmt::Result {
         let number = self.number;
         match self.record {
-            CaseRecord::Period { number, allowance } => {
+            CaseRecord::Period(Period { number, allowance }) => {
                 write!(
                     f,
                     "period {number}: allowance {allowance} in the unit of each widened row"
                 )
             }
-            CaseRecord::Node {
-                deficit_maximum,
-                deficit_price,
-                excess_maximum,
-                excess_price,
-            } => {
+            CaseRecord::Node(
+                Node {
+                    deficit_maximum,
+                    deficit_price,
+                    excess_maximum,
+                    excess_price,
+                },
+            ) => {
                 write!(
                     f,
                     "node {number}: deficit up to {deficit_maximum} kW at {deficit_price} cents per MWh; excess up to {excess_maximum} kW at {excess_price} cents per MWh"
                 )
             }
-            CaseRecord::Line {
-                start,
-                end,
-                forward_limit,
-                reverse_limit,
-                admittance,
-                shift,
-                violation_price,
-                points,
-            } => {
+            CaseRecord::Line(
+                Line {
+                    start,
+                    end,
+                    forward_limit,
+                    reverse_limit,
+                    admittance,
+                    shift,
+                    violation_price,
+                    points,
+                },
+            ) => {
                 write!(
                     f,
                     "line {number}: from node {start} to node {end}; flow {reverse_limit} to {forward_limit} kW; admittance {admittance} W/µrad; shift {shift} µrad; violation at {violation_price} cents per MWh"
                 )?;
                 show_points(points, f)
             }
-            CaseRecord::EnergyOffer {
-                node,
-                end_minimum,
-                end_maximum,
-                violation_price,
-                blocks,
-            } => {
+            CaseRecord::EnergyOffer(
+                EnergyOffer {
+                    node,
+                    end_minimum,
+                    end_maximum,
+                    violation_price,
+                    blocks,
+                },
+            ) => {
                 write!(
                     f,
                     "energy offer {number}: at node {node}; end {end_minimum} to {end_maximum} kW; violation at {violation_price} cents per MWh"
                 )?;
                 show_blocks(blocks, f)
             }
-            CaseRecord::Bid { node, blocks } => {
+            CaseRecord::Bid(Bid { node, blocks }) => {
                 write!(f, "bid {number}: at node {node}")?;
                 show_blocks(blocks, f)
             }
-            CaseRecord::RegulationOffer {
-                offer,
-                minimum,
-                maximum,
-                violation_price,
-                blocks,
-            } => {
+            CaseRecord::RegulationOffer(
+                RegulationOffer {
+                    offer,
+                    minimum,
+                    maximum,
+                    violation_price,
+                    blocks,
+                },
+            ) => {
                 write!(
                     f,
                     "regulation offer {number}: on energy offer {offer}; regulating {minimum} to {maximum} kW; violation at {violation_price} cents per MWh"
                 )?;
                 show_blocks(blocks, f)
             }
-            CaseRecord::Requirement {
-                requirement,
-                deficit_price,
-            } => {
+            CaseRecord::Requirement(
+                Requirement {
+                    requirement,
+                    deficit_price,
+                },
+            ) => {
                 write!(
                     f,
                     "requirement: {requirement} kW; deficit at {deficit_price} cents per MWh"

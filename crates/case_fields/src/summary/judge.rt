@@ -54,14 +54,13 @@ impl Summary {
         ensures { (es : List Entry) → SumsUp self.now es → result ≡ refers es (meant «record».entry) }
     {
         match record {
-            CaseRecord::Line { start, end, .. } => {
-                self.has_node(start) && self.has_node(end) && !(start == end)
+            CaseRecord::Line(line) => {
+                self.has_node(line.start) && self.has_node(line.end) && line.start != line.end
             }
-            CaseRecord::EnergyOffer { node, .. } => self.has_node(node),
-            CaseRecord::Bid { node, .. } => self.has_node(node),
-            CaseRecord::RegulationOffer { offer, .. } => self.is_free(offer),
-            CaseRecord::Period { .. } | CaseRecord::Node { .. } | CaseRecord::Requirement { .. } =>
-                true,
+            CaseRecord::EnergyOffer(offer) => self.has_node(offer.node),
+            CaseRecord::Bid(bid) => self.has_node(bid.node),
+            CaseRecord::RegulationOffer(regulation) => self.is_free(regulation.offer),
+            CaseRecord::Period(_) | CaseRecord::Node(_) | CaseRecord::Requirement(_) => true,
         }
     }
 

@@ -28,13 +28,15 @@ impl Summary {
     {
         self.last_tag = record.tag();
         match record {
-            CaseRecord::Period { .. } => self.has_period = true,
-            CaseRecord::Node { .. } => self.nodes += 1,
-            CaseRecord::EnergyOffer { .. } => self.regulated.push(false)?,
-            CaseRecord::RegulationOffer { offer, .. } => mark(&mut self.regulated, offer as usize),
-            CaseRecord::Requirement { .. } => self.has_requirement = true,
-            CaseRecord::Line { .. } => {}
-            CaseRecord::Bid { .. } => {}
+            CaseRecord::Period(_) => self.has_period = true,
+            CaseRecord::Node(_) => self.nodes += 1,
+            CaseRecord::EnergyOffer(_) => self.regulated.push(false)?,
+            CaseRecord::RegulationOffer(regulation) => {
+                mark(&mut self.regulated, regulation.offer as usize)
+            }
+            CaseRecord::Requirement(_) => self.has_requirement = true,
+            CaseRecord::Line(_) => {}
+            CaseRecord::Bid(_) => {}
         }
         Ok(())
     }

@@ -27,7 +27,7 @@ returns-in_ok-push-in-EnergyOffer c =
 pub returns-in-RegulationOffer : goal.returns-in-RegulationOffer
 returns-in-RegulationOffer c =
     record {
-      sums = λ es s r. one_more _ _ es _ _ (ap meant c.in-RegulationOffer.is) s c.tag-self.ensures refl refl (omega arith) (omega (arith, c.mark.ensures.len)) (λ k. ap (λ l. get_or l k false) c.mark.ensures.items ∙ marked _ c.in-RegulationOffer.offer k (omega (arith, offer_there es _ _ (ap meant c.in-RegulationOffer.is) r, s.offers, c.args.self.now.regulated.ok.0)));
+      sums = λ es s r. one_more _ _ es _ _ (ap meant c.in-RegulationOffer.is) s c.tag-self.ensures refl refl (omega arith) (omega (arith, c.mark.ensures.len)) (λ k. ap (λ l. get_or l k false) c.mark.ensures.items ∙ marked _ c.in-RegulationOffer.regulation.offer k (omega (arith, offer_there es _ _ (ap meant c.in-RegulationOffer.is) r, s.offers, c.args.self.now.regulated.ok.0)));
       grows = omega arith;
     }
 

@@ -2,7 +2,7 @@ use Rattle.std.proofs.Common.{◌≡◌, ◌%◌, length, sym, refl, arith, w32,
 use Rattle.fields.specs.Bytes.{Bytes, signed_four, two}
 use Rattle.case_fields.proofs.Pairs.{points_back, points_written}
 use Rattle.case_fields.proofs.Parsing.{signed_step, step, after}
-use Rattle.case_fields.proofs.parse.parse_line.Goals as goal
+use Rattle.case_fields.proofs.record.Line.parse.Goals as goal
 
 pub returns : goal.returns
 returns c =

@@ -2,7 +2,7 @@ use Rattle.std.proofs.Common.{◌≡◌, ◌%◌, length, sym, refl, arith, w32,
 use Rattle.fields.specs.Bytes.{Bytes, signed_four, two}
 use Rattle.case_fields.proofs.Pairs.{blocks_back, blocks_written}
 use Rattle.case_fields.proofs.Parsing.{signed_step, step, after}
-use Rattle.case_fields.proofs.parse.parse_regulation_offer.Goals as goal
+use Rattle.case_fields.proofs.record.RegulationOffer.parse.Goals as goal
 
 pub returns : goal.returns
 returns c =

@@ -1,7 +1,7 @@
 use Rattle.std.proofs.Common.{refl, w32, SFits, rules}
 use Rattle.std.proofs.lemmas.List.{nil_from_length}
 use Rattle.case_fields.proofs.Parsing.{signed_step}
-use Rattle.case_fields.proofs.parse.parse_node.Goals as goal
+use Rattle.case_fields.proofs.record.Node.parse.Goals as goal
 
 pub returns : goal.returns
 returns c =

@@ -2,7 +2,7 @@ use Rattle.std.proofs.Common.{◌≡◌, ◌%◌, length, sym, refl, arith, rule
 use Rattle.fields.specs.Bytes.{Bytes, two}
 use Rattle.case_fields.proofs.Pairs.{blocks_back, blocks_written}
 use Rattle.case_fields.proofs.Parsing.{step, after}
-use Rattle.case_fields.proofs.parse.parse_bid.Goals as goal
+use Rattle.case_fields.proofs.record.Bid.parse.Goals as goal
 
 pub returns : goal.returns
 returns c =

@@ -2,7 +2,7 @@ use Rattle.std.proofs.Common.{refl, w32, SFits, rules}
 use Rattle.std.proofs.lemmas.List.{nil_from_length}
 use Rattle.fields.specs.Bytes.{four}
 use Rattle.case_fields.proofs.Parsing.{signed_step, step}
-use Rattle.case_fields.proofs.parse.parse_period.Goals as goal
+use Rattle.case_fields.proofs.record.Period.parse.Goals as goal
 
 pub returns : goal.returns
 returns c =
