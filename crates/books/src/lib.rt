@@ -3,5 +3,6 @@
 
 pub mod book;
 pub mod clause;
+pub mod condition;
 pub mod fault;
 pub mod part;

@@ -2,6 +2,7 @@
 #![tactic(auto)]
 
 mod column;
+pub mod range;
 pub mod read;
 pub mod record;
 mod row;

@@ -1,14 +1,39 @@
 //! The terms of a row, which stay in the listing.
-ghost use Rattle.std.specs.Prelude.{◌≡◌, ◌+◌, ◌<◌, [], ◌∷◌, length, MatchOption};
+ghost use Rattle.std.specs.Prelude.{◌≡◌, ◌+◌, ◌<◌, not, ◌&&◌, [], ◌∷◌, length, nat_le, nat_lt, MatchOption};
 ghost use Rattle.std.specs.List.{slice_get};
 ghost use Rattle.listing_fields.specs.Terms.{terms_in};
 ghost use Rattle.listing_fields.specs.Tests.{is_coefficient, is_nought, terms_in_range, terms_refer, terms_rise};
+
+use crate::range::is_coefficient;
 
 /// A term of a row: the number of a column, and its coefficient.
 #[derive(Clone, Copy, PartialEq, Eq, Debug)]
 pub struct Term {
     pub column: u16,
     pub coefficient: i32,
+}
+
+impl Term {
+    /// Whether its coefficient is in range, as each column number is.
+    pub fn is_in_range(self) -> bool
+        ensures { result ≡ (nat_lt self.column 65536 && is_coefficient self.coefficient) }
+    {
+        is_coefficient(self.coefficient)
+    }
+
+    /// Whether it names one of so many columns.
+    pub fn refers(self, columns: usize) -> bool
+        ensures { result ≡ nat_lt self.column columns }
+    {
+        usize::from(self.column) < columns
+    }
+
+    /// Whether its column is at least the least, and its coefficient is not nought.
+    pub fn rises(self, least: usize) -> bool
+        ensures { result ≡ (nat_le least self.column && not (is_nought self.coefficient)) }
+    {
+        least <= usize::from(self.column) && self.coefficient != 0
+    }
 }
 
 /// The terms of a row, in the bytes of the listing.
@@ -57,12 +82,6 @@ impl Terms<'_> {
             None => None,
         }
     }
-}
-
-fn is_coefficient(z: i32) -> bool
-    ensures { result ≡ is_coefficient z }
-{
-    -1_000_000 <= z && z <= 1_000_000
 }
 
 fn is_nought(z: i32) -> bool
