@@ -7,17 +7,12 @@ use crate::kinds::{Kinds, Span};
 use case_fields::record::CaseRecord;
 
 /// How many records have a lower tag.
+#[tactic(auto, using(crate::proofs::Counts::count_below))]
 fn below_tag(records: &[CaseRecord<'_>], tag: u8) -> usize
     ensures value { result ≡ below tag (map meant records.now) }
     ensures high { result ≤ length records.now }
 {
-    let mut n = 0;
-    for given in records {
-        if given.tag() < tag {
-            n += 1;
-        }
-    }
-    n
+    records.iter().filter(|given| given.tag() < tag).count()
 }
 
 /// The records of a tag.
