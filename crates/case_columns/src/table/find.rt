@@ -16,6 +16,13 @@ impl Table {
         self.named.len()
     }
 
+    /// The columns with their names, in file order.
+    pub fn as_slice(&self) -> &[Named]
+        ensures { result.now ≡ columns_in self.now }
+    {
+        &self.named
+    }
+
     /// The column of a number, with its name, or none past the end.
     pub fn get(&self, i: usize) -> Option<Named>
         ensures { result ≡ slice_get (columns_in self.now) i }
