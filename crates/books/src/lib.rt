@@ -5,3 +5,4 @@ pub mod book;
 pub mod clause;
 pub mod fault;
 pub mod part;
+pub mod walk;
