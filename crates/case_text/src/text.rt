@@ -1,13 +1,13 @@
 //! The text of a case, a line for each record.
 use crate::outcome::Outcome;
-use case_fields::part::{Blocks, Points};
+use case_fields::part::{Block, Blocks, Point, Points};
 use case_fields::record::{
     Bid, CaseRecord, EnergyOffer, Line, Node, Period, RegulationOffer, Requirement,
 };
 use std::fmt;
 
 /// How many records of each kind came so far.
-#[derive(Clone, Copy, Drop)]
+#[derive(Clone, Copy, Default)]
 struct Counts {
     nodes: usize,
     lines: usize,
@@ -17,16 +17,6 @@ struct Counts {
 }
 
 impl Counts {
-    fn new() -> Counts {
-        Counts {
-            nodes: 0,
-            lines: 0,
-            energy_offers: 0,
-            bids: 0,
-            regulation_offers: 0,
-        }
-    }
-
     /// The number of a record among those of its kind, or nought where a case has one of the kind.
     fn of(&self, record: CaseRecord<'_>) -> usize {
         match record {
@@ -54,23 +44,15 @@ impl Counts {
 }
 
 fn show_blocks<W: fmt::Write>(blocks: Blocks<'_>, f: &mut fmt::Formatter<W>) -> fmt::Result {
-    for i in 0..blocks.len() {
-        if let Some(block) = blocks.get(i) {
-            let price = block.price;
-            let maximum = block.maximum;
-            write!(f, "; block of {maximum} kW at {price} cents per MWh")?;
-        }
+    for Block { price, maximum } in blocks.iter() {
+        write!(f, "; block of {maximum} kW at {price} cents per MWh")?;
     }
     Ok(())
 }
 
 fn show_points<W: fmt::Write>(points: Points<'_>, f: &mut fmt::Formatter<W>) -> fmt::Result {
-    for i in 0..points.len() {
-        if let Some(point) = points.get(i) {
-            let flow = point.flow;
-            let loss = point.loss;
-            write!(f, "; point of {flow} kW losing {loss} kW")?;
-        }
+    for Point { flow, loss } in points.iter() {
+        write!(f, "; point of {flow} kW losing {loss} kW")?;
     }
     Ok(())
 }
@@ -177,7 +159,7 @@ pub fn show_case<W: fmt::Write>(
     records: &[CaseRecord<'_>],
     f: &mut fmt::Formatter<W>,
 ) -> fmt::Result {
-    let mut counts = Counts::new();
+    let mut counts = Counts::default();
     for record in records {
         let line = Numbered {
             number: counts.of(*record),

@@ -21,7 +21,7 @@ fn counts_whole_pairs(rt: HostRuntime) {
     for (size, count) in SIZES {
         assert!(rt; size <= 16);
         let bytes = &zeros[0..size];
-        check_blocks(&rt, Blocks { bytes }, count);
-        check_points(&rt, Points { bytes }, count);
+        check_blocks(&rt, Blocks::new(bytes), count);
+        check_points(&rt, Points::new(bytes), count);
     }
 }
