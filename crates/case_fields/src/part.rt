@@ -4,6 +4,7 @@ ghost use Rattle.case_fields.specs.Held.{held_parts};
 
 use fields::number::Number;
 use fields::sequence::{Element, Sequence};
+use std::fmt;
 
 /// A block of an offer or a bid: up to so many kilowatts at a price.
 #[derive(Clone, Copy, PartialEq, Eq, Debug)]
@@ -14,6 +15,13 @@ pub struct Block {
     pub maximum: i32,
 }
 
+impl fmt::Display for Block {
+    fn fmt<W: fmt::Write>(&self, f: &mut fmt::Formatter<W>) -> fmt::Result {
+        let Block { price, maximum } = *self;
+        write!(f, "block of {maximum} kW at {price} cents per MWh")
+    }
+}
+
 /// A point of a line's loss curve.
 #[derive(Clone, Copy, PartialEq, Eq, Debug)]
 pub struct Point {
@@ -21,6 +29,13 @@ pub struct Point {
     pub flow: i32,
     /// Kilowatts lost at that flow.
     pub loss: i32,
+}
+
+impl fmt::Display for Point {
+    fn fmt<W: fmt::Write>(&self, f: &mut fmt::Formatter<W>) -> fmt::Result {
+        let Point { flow, loss } = *self;
+        write!(f, "point of {flow} kW losing {loss} kW")
+    }
 }
 
 /// The bytes of a block, and of a point: two four-byte numbers.
