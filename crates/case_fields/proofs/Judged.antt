@@ -15,7 +15,7 @@ use Rattle.case_fields.specs.Entries.{Entry}
 use Rattle.case_fields.specs.Kinds.{choose, tag_of, kind, takes}
 use Rattle.case_fields.specs.Parsed.{Holds}
 use Rattle.case_fields.specs.Read.{Next}
-use Rattle.case_fields.specs.Summaries.{SumsUp}
+use Rattle.case_fields.specs.Summaries.{SumsUp, last_tag}
 use Rattle.case_fields.specs.Tests.{tag_of_last, in_turn, known, follows, sized, in_range, refers}
 use Rattle.case_fields.proofs.Lawful.{lawful}
 
@@ -40,24 +40,26 @@ module _ {s : Summary} {es : List Entry} (u : SumsUp s es) {bs : List ℕ} {t : 
     is_known : known t ≡ true
     is_known = sym (ap (λ (o : Option RecordKind). elim o [ Some j ↦ true | None ↦ false ]) some)
 
-    follows_is : follows es t ≡ in_turn s.last_tag k t
+    follows_is : follows es t ≡ in_turn (last_tag s.last) k (tag_of k)
     follows_is =
         sym (ap (λ (o : Option RecordKind). elim o [ Some j ↦ in_turn (tag_of_last es) j t | None ↦ false ]) some)
         ∙ sym (ap (λ l. in_turn l k t) u.last)
+        ∙ ap (in_turn (last_tag s.last) k) (sym (kind_tag t k some))
 
     sized_is : (n : ℕ) → sized t n ≡ takes k n
     sized_is n = sym (ap (λ (o : Option RecordKind). elim o [ Some j ↦ takes j n | None ↦ false ]) some)
 
-    pub out_of_turn : false ≡ in_turn s.last_tag k t → First (checks case_format es bs) TagOrder
+    pub out_of_turn : false ≡ in_turn (last_tag s.last) k (tag_of k) → First (checks case_format es bs) TagOrder
     unfolding case_format
     out_of_turn n = first_order case_format es p is_known (follows_is ∙ sym n)
 
-    module _ (turn : true ≡ in_turn s.last_tag k t) where
-      pub unfit_length : false ≡ takes k (length b) → First (checks case_format es bs) BadLength
+    module _ (turn : true ≡ in_turn (last_tag s.last) k (tag_of k)) where
+      pub unfit_length : (f : FaultKind) → f ≡ BadLength → takes k (length b) ≡ false → First (checks case_format es bs) f
       unfolding case_format
-      unfit_length n = first_length case_format es p is_known (follows_is ∙ sym turn) (sized_is (length b) ∙ sym n)
+      unfit_length f is n =
+          subst (First (checks case_format es bs)) (sym is) (first_length case_format es p is_known (follows_is ∙ sym turn) (sized_is (length b) ∙ n))
 
-      module _ (long : true ≡ takes k (length b)) {e : Entry} (h : Holds b (tag_of k) e) where
+      module _ (long : takes k (length b) ≡ true) {e : Entry} (h : Holds b (tag_of k) e) where
         tag_is : tag e ≡ t
         tag_is = h.tagged ∙ kind_tag t k some
 
@@ -71,7 +73,7 @@ module _ {s : Summary} {es : List Entry} (u : SumsUp s es) {bs : List ℕ} {t : 
         follows_v = ap (follows es) tag_is ∙ follows_is ∙ sym turn
 
         sized_v : sized (tag e) (length (body e)) ≡ true
-        sized_v = (λ i. sized (tag_is i) (length (sym h.bytes i))) ∙ sized_is (length b) ∙ sym long
+        sized_v = (λ i. sized (tag_is i) (length (sym h.bytes i))) ∙ sized_is (length b) ∙ long
 
         pub out_of_range : false ≡ in_range e → First (checks case_format es bs) OutOfRange
         unfolding case_format

@@ -53,17 +53,14 @@ impl RecordKind {
     }
 
     /// Whether a case has it exactly once.
-    pub fn once(self) -> bool
+    pub(crate) fn once(self) -> bool
         ensures { result ≡ once self }
     {
-        match self {
-            RecordKind::Period | RecordKind::Requirement => true,
-            _ => false,
-        }
+        matches!(self, RecordKind::Period | RecordKind::Requirement)
     }
 
     /// The bytes before the points or blocks.
-    pub fn front(self) -> usize
+    pub(crate) fn front(self) -> usize
         ensures { result ≡ front self }
     {
         match self {
@@ -78,7 +75,7 @@ impl RecordKind {
     }
 
     /// The fewest points or blocks.
-    pub fn fewest(self) -> usize
+    pub(crate) fn fewest(self) -> usize
         ensures { result ≡ fewest self }
     {
         match self {
@@ -89,7 +86,7 @@ impl RecordKind {
     }
 
     /// The most points or blocks.
-    pub fn most(self) -> usize
+    pub(crate) fn most(self) -> usize
         ensures { result ≡ most self }
     {
         match self {
@@ -101,14 +98,11 @@ impl RecordKind {
     }
 
     /// Whether a body can be so long.
-    pub fn takes(self, long: usize) -> bool
+    pub(crate) fn takes(self, long: usize) -> bool
         ensures { result ≡ takes self long }
     {
-        let front = self.front();
-        if long < front {
-            return false;
-        }
-        let pairs = (long - front) / 8;
-        front + 8 * pairs == long && self.fewest() <= pairs && pairs <= self.most()
+        long.checked_sub(self.front()).is_some_and(|parts| {
+            parts % 8 == 0 && (self.fewest()..=self.most()).contains(&(parts / 8))
+        })
     }
 }

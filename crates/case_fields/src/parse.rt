@@ -1,5 +1,6 @@
 //! A record from the body of its field.
-ghost use Rattle.std.specs.Prelude.{◌≡◌, ◌-◌, ◌%◌, ◌≤◌, true, length, MatchOption};
+ghost use Rattle.std.specs.Prelude.{◌≡◌, ◌-◌, ◌%◌, ◌≤◌, true, false, length, MatchOption, MatchResult};
+ghost use Rattle.fields.specs.declared.fault.FaultKind.TheVariants.{BadLength};
 ghost use Rattle.case_fields.specs.Kinds.{tag_of, takes};
 ghost use Rattle.case_fields.specs.Meant.{meant, period_meant, node_meant, line_meant, energy_offer_meant, bid_meant, regulation_offer_meant, requirement_meant};
 ghost use Rattle.case_fields.specs.Parsed.{Holds};
@@ -9,15 +10,16 @@ use crate::part::{Blocks, Points};
 use crate::record::{
     Bid, CaseRecord, EnergyOffer, Line, Node, Period, RegulationOffer, Requirement,
 };
-use fields::number::{split_i32, split_u16, split_u32};
+use fields::fault::FaultKind;
+use fields::number::Number;
 
 impl Period {
     fn parse(body: &[u8]) -> Option<Period>
         requires { length body.now ≡ 8 }
         ensures { MatchOption result ⊥ (λ p. Holds body.now 1 (period_meant p)) }
     {
-        let (number, rest) = split_u32(body)?;
-        let (allowance, _) = split_i32(rest)?;
+        let (number, rest) = u32::split(body)?;
+        let (allowance, _) = i32::split(rest)?;
         Some(Period { number, allowance })
     }
 }
@@ -27,10 +29,10 @@ impl Node {
         requires { length body.now ≡ 16 }
         ensures { MatchOption result ⊥ (λ n. Holds body.now 2 (node_meant n)) }
     {
-        let (deficit_maximum, rest) = split_i32(body)?;
-        let (deficit_price, rest) = split_i32(rest)?;
-        let (excess_maximum, rest) = split_i32(rest)?;
-        let (excess_price, _) = split_i32(rest)?;
+        let (deficit_maximum, rest) = i32::split(body)?;
+        let (deficit_price, rest) = i32::split(rest)?;
+        let (excess_maximum, rest) = i32::split(rest)?;
+        let (excess_price, _) = i32::split(rest)?;
         Some(Node {
             deficit_maximum,
             deficit_price,
@@ -45,13 +47,13 @@ impl<'a> Line<'a> {
         requires { (24 ≤ length body.now) × ((length body.now - 24) % 8 ≡ 0) }
         ensures { MatchOption result ⊥ (λ l. Holds body.now 3 (line_meant l)) }
     {
-        let (start, rest) = split_u16(body)?;
-        let (end, rest) = split_u16(rest)?;
-        let (forward_limit, rest) = split_i32(rest)?;
-        let (reverse_limit, rest) = split_i32(rest)?;
-        let (admittance, rest) = split_i32(rest)?;
-        let (shift, rest) = split_i32(rest)?;
-        let (violation_price, bytes) = split_i32(rest)?;
+        let (start, rest) = u16::split(body)?;
+        let (end, rest) = u16::split(rest)?;
+        let (forward_limit, rest) = i32::split(rest)?;
+        let (reverse_limit, rest) = i32::split(rest)?;
+        let (admittance, rest) = i32::split(rest)?;
+        let (shift, rest) = i32::split(rest)?;
+        let (violation_price, bytes) = i32::split(rest)?;
         Some(Line {
             start,
             end,
@@ -60,7 +62,7 @@ impl<'a> Line<'a> {
             admittance,
             shift,
             violation_price,
-            points: Points { bytes },
+            points: Points::new(bytes),
         })
     }
 }
@@ -70,16 +72,16 @@ impl<'a> EnergyOffer<'a> {
         requires { (14 ≤ length body.now) × ((length body.now - 14) % 8 ≡ 0) }
         ensures { MatchOption result ⊥ (λ o. Holds body.now 4 (energy_offer_meant o)) }
     {
-        let (node, rest) = split_u16(body)?;
-        let (end_minimum, rest) = split_i32(rest)?;
-        let (end_maximum, rest) = split_i32(rest)?;
-        let (violation_price, bytes) = split_i32(rest)?;
+        let (node, rest) = u16::split(body)?;
+        let (end_minimum, rest) = i32::split(rest)?;
+        let (end_maximum, rest) = i32::split(rest)?;
+        let (violation_price, bytes) = i32::split(rest)?;
         Some(EnergyOffer {
             node,
             end_minimum,
             end_maximum,
             violation_price,
-            blocks: Blocks { bytes },
+            blocks: Blocks::new(bytes),
         })
     }
 }
@@ -89,10 +91,10 @@ impl<'a> Bid<'a> {
         requires { (2 ≤ length body.now) × ((length body.now - 2) % 8 ≡ 0) }
         ensures { MatchOption result ⊥ (λ b. Holds body.now 5 (bid_meant b)) }
     {
-        let (node, bytes) = split_u16(body)?;
+        let (node, bytes) = u16::split(body)?;
         Some(Bid {
             node,
-            blocks: Blocks { bytes },
+            blocks: Blocks::new(bytes),
         })
     }
 }
@@ -102,16 +104,16 @@ impl<'a> RegulationOffer<'a> {
         requires { (14 ≤ length body.now) × ((length body.now - 14) % 8 ≡ 0) }
         ensures { MatchOption result ⊥ (λ r. Holds body.now 6 (regulation_offer_meant r)) }
     {
-        let (offer, rest) = split_u16(body)?;
-        let (minimum, rest) = split_i32(rest)?;
-        let (maximum, rest) = split_i32(rest)?;
-        let (violation_price, bytes) = split_i32(rest)?;
+        let (offer, rest) = u16::split(body)?;
+        let (minimum, rest) = i32::split(rest)?;
+        let (maximum, rest) = i32::split(rest)?;
+        let (violation_price, bytes) = i32::split(rest)?;
         Some(RegulationOffer {
             offer,
             minimum,
             maximum,
             violation_price,
-            blocks: Blocks { bytes },
+            blocks: Blocks::new(bytes),
         })
     }
 }
@@ -121,8 +123,8 @@ impl Requirement {
         requires { length body.now ≡ 8 }
         ensures { MatchOption result ⊥ (λ q. Holds body.now 15 (requirement_meant q)) }
     {
-        let (requirement, rest) = split_i32(body)?;
-        let (deficit_price, _) = split_i32(rest)?;
+        let (requirement, rest) = i32::split(body)?;
+        let (deficit_price, _) = i32::split(rest)?;
         Some(Requirement {
             requirement,
             deficit_price,
@@ -132,7 +134,7 @@ impl Requirement {
 
 impl<'a> CaseRecord<'a> {
     /// The record of this kind that a body holds, which is as long as the kind takes.
-    pub(crate) fn parse(kind: RecordKind, body: &'a [u8]) -> Option<CaseRecord<'a>>
+    fn parse(kind: RecordKind, body: &'a [u8]) -> Option<CaseRecord<'a>>
         requires { takes kind (length body.now) ≡ true }
         ensures { MatchOption result ⊥ (λ r. Holds body.now (tag_of kind) (meant r)) }
     {
@@ -147,5 +149,17 @@ impl<'a> CaseRecord<'a> {
             }
             RecordKind::Requirement => CaseRecord::Requirement(Requirement::parse(body)?),
         })
+    }
+
+    /// The record of this kind that a body holds; refused exactly when the kind cannot be so long.
+    pub(crate) fn read(kind: RecordKind, body: &'a [u8]) -> Result<CaseRecord<'a>, FaultKind>
+        ensures { MatchResult result
+            (λ r. (takes kind (length body.now) ≡ true) × Holds body.now (tag_of kind) (meant r))
+            (λ k. (k ≡ BadLength) × (takes kind (length body.now) ≡ false)) }
+    {
+        if !kind.takes(body.len()) {
+            return Err(FaultKind::BadLength);
+        }
+        CaseRecord::parse(kind, body).ok_or(FaultKind::BadLength)
     }
 }

@@ -5,7 +5,7 @@ ghost use Rattle.case_fields.specs.Parts.{blocks_in, points_in};
 ghost use Rattle.case_fields.specs.Meant.{meant, period_meant, node_meant, line_meant, energy_offer_meant, bid_meant, regulation_offer_meant, requirement_meant};
 ghost use Rattle.case_fields.specs.Tests.{is_quantity, is_reverse_limit, is_block_price, is_penalty, is_admittance, is_signed_quantity, blocks_fit, points_fit, in_range};
 
-use crate::part::{Blocks, Points, split_pair};
+use crate::part::{Block, Blocks, Point, Points};
 use crate::record::{
     Bid, CaseRecord, EnergyOffer, Line, Node, Period, RegulationOffer, Requirement,
 };
@@ -14,73 +14,75 @@ use crate::record::{
 fn is_quantity(z: i32) -> bool
     ensures { result ≡ is_quantity z }
 {
-    0 <= z && z <= 1_000_000
+    (0..=1_000_000).contains(&z)
 }
 
 /// Whether a number is a limit on the flow against a line's direction.
 fn is_reverse_limit(z: i32) -> bool
     ensures { result ≡ is_reverse_limit z }
 {
-    -1_000_000 <= z && z <= 0
+    (-1_000_000..=0).contains(&z)
 }
 
 /// Whether a number is a block's price, in cents per MWh.
 fn is_block_price(z: i32) -> bool
     ensures { result ≡ is_block_price z }
 {
-    -10_000_000 <= z && z <= 10_000_000
+    (-10_000_000..=10_000_000).contains(&z)
 }
 
 /// Whether a number is the price of a violation, a deficit or an excess.
 fn is_penalty(z: i32) -> bool
     ensures { result ≡ is_penalty z }
 {
-    0 <= z && z <= 10_000_000
+    (0..=10_000_000).contains(&z)
 }
 
 /// Whether a number is a line's admittance.
 fn is_admittance(z: i32) -> bool
     ensures { result ≡ is_admittance z }
 {
-    1 <= z && z <= 1_000_000
+    (1..=1_000_000).contains(&z)
 }
 
 /// Whether a number is a line's shift or a point's flow.
 fn is_signed_quantity(z: i32) -> bool
     ensures { result ≡ is_signed_quantity z }
 {
-    -1_000_000 <= z && z <= 1_000_000
+    (-1_000_000..=1_000_000).contains(&z)
 }
 
-/// Whether a block's numbers are in range.
-fn block_in_range(price: i32, maximum: i32) -> bool
-    ensures { result ≡ both (is_block_price price) (is_quantity maximum) }
-{
-    is_block_price(price) && is_quantity(maximum)
+impl Block {
+    /// Whether its numbers are in range.
+    fn is_in_range(self) -> bool
+        ensures { result ≡ both (is_block_price self.price) (is_quantity self.maximum) }
+    {
+        is_block_price(self.price) && is_quantity(self.maximum)
+    }
 }
 
-/// Whether a point's numbers are in range.
-fn point_in_range(flow: i32, loss: i32) -> bool
-    ensures { result ≡ both (is_signed_quantity flow) (is_quantity loss) }
-{
-    is_signed_quantity(flow) && is_quantity(loss)
+impl Point {
+    /// Whether its numbers are in range.
+    fn is_in_range(self) -> bool
+        ensures { result ≡ both (is_signed_quantity self.flow) (is_quantity self.loss) }
+    {
+        is_signed_quantity(self.flow) && is_quantity(self.loss)
+    }
 }
 
 /// Whether each block is in range and the maxima sum to a quantity.
 fn blocks_in_range(blocks: Blocks<'_>) -> bool
     ensures { result ≡ blocks_fit (blocks_in blocks.entry.bytes.now) }
 {
-    let mut rest = blocks.bytes;
     let mut sum = 0u32;
-    while let Some(((price, maximum), after)) = split_pair(rest) {
-        if !block_in_range(price, maximum) {
+    for block in blocks.iter() {
+        if !block.is_in_range() {
             return false;
         }
-        sum += maximum as u32;
+        sum += block.maximum as u32;
         if sum > 1_000_000 {
             return false;
         }
-        rest = after;
     }
     true
 }
@@ -89,18 +91,12 @@ fn blocks_in_range(blocks: Blocks<'_>) -> bool
 fn points_in_range(points: Points<'_>) -> bool
     ensures { result ≡ points_fit (points_in points.entry.bytes.now) }
 {
-    let mut rest = points.bytes;
-    // Below every flow that is in range.
-    let mut last = -1_000_001i32;
-    while let Some(((flow, loss), after)) = split_pair(rest) {
-        if !point_in_range(flow, loss) {
+    let mut last = None;
+    for point in points.iter() {
+        if !point.is_in_range() || last.is_some_and(|flow| point.flow <= flow) {
             return false;
         }
-        if flow <= last {
-            return false;
-        }
-        last = flow;
-        rest = after;
+        last = Some(point.flow);
     }
     true
 }

@@ -51,12 +51,7 @@ fn head(of: CaseRecord<'_>) -> Head {
             ],
             offer.blocks.len(),
         ),
-        CaseRecord::Bid(bid) => (
-            5,
-            [bid.node as u32, 0],
-            [0, 0, 0, 0, 0],
-            bid.blocks.len(),
-        ),
+        CaseRecord::Bid(bid) => (5, [bid.node as u32, 0], [0, 0, 0, 0, 0], bid.blocks.len()),
         CaseRecord::RegulationOffer(offer) => (
             6,
             [offer.offer as u32, 0],
@@ -95,8 +90,8 @@ fn check_head(rt: &impl Abort, of: CaseRecord<'_>, expected: Head) {
 /// Checks the heads of all records.
 fn check_heads(rt: &impl Abort, all: &[CaseRecord<'_>], heads: &[Head]) {
     assert!(rt; all.len() == heads.len());
-    for i in 0..heads.len() {
-        check_head(rt, all[i], heads[i]);
+    for (record, head) in all.iter().zip(heads) {
+        check_head(rt, *record, *head);
     }
 }
 

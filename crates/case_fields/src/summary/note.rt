@@ -14,8 +14,8 @@ fn mark(marks: &mut Vec<bool>, place: usize)
     ensures items { marks.new.items ≡ slice_set marks.old.items place true }
     ensures len { vec_len marks.new ≡ vec_len marks.old }
 {
-    if place < marks.len() {
-        marks[place] = true;
+    if let Some(mark) = marks.get_mut(place) {
+        *mark = true;
     }
 }
 
@@ -26,7 +26,7 @@ impl Summary {
         ensures sums { (es : List Entry) → SumsUp self.old es → refers es (meant «record».entry) ≡ true → OnOk result (SumsUp self.new (es ++ meant «record».entry ∷ [])) }
         ensures grows { self.new.nodes ≤ self.old.nodes + 1 }
     {
-        self.last_tag = record.tag();
+        self.last = Some(record.kind());
         match record {
             CaseRecord::Period(_) => self.has_period = true,
             CaseRecord::Node(_) => self.nodes += 1,

@@ -1,17 +1,17 @@
-use Rattle.std.proofs.Common.{◌≡◌, ◌%◌, length, sym, refl, arith, rules}
-use Rattle.fields.specs.Bytes.{Bytes, two}
+use Rattle.std.proofs.Common.{◌≡◌, ℕ, ◌%◌, List, [], ◌∷◌, length, refl, arith, rules}
+use Rattle.fields.specs.Bytes.{two, put}
 use Rattle.case_fields.proofs.Pairs.{blocks_back, blocks_written}
-use Rattle.case_fields.proofs.Parsing.{step, after}
+use Rattle.case_fields.proofs.Parsing.{rest_bytes}
 use Rattle.case_fields.proofs.record.Bid.parse.Goals as goal
 
 pub returns : goal.returns
 returns c =
-    let part : Bytes c.in_ok-node.bytes.now =
-    after (two c.in_ok-node.node) c.in_ok-node.bytes.now c.in_ok-node.ensures.0 (λ k. (c.type_inv.body k).fits) in
+    let parts : List (List ℕ) = two c.in_ok-node.node ∷ [] in
+    let whole : c.args.body.now ≡ put parts c.in_ok-node.bytes.now = c.in_ok-node.ensures.0 in
+    let bytes = rest_bytes parts _ whole (λ k. (c.type_inv.body k).fits) in
     let eighths : length c.in_ok-node.bytes.now % 8 ≡ 0 = omega (arith, c.requires.1, c.in_ok-node.ensures.1) in
-    record {
-      bytes = step (two c.in_ok-node.node) c.in_ok-node.ensures.0 (
-          (sym (blocks_back c.in_ok-node.bytes.now part eighths)));
+    rw c.new.ensures (record {
+      bytes = search (rules, whole, blocks_back c.in_ok-node.bytes.now bytes eighths);
       tagged = refl;
-      written = (search rules, blocks_written c.in_ok-node.bytes.now part);
-    }
+      written = (search rules, blocks_written c.in_ok-node.bytes.now bytes);
+    })
