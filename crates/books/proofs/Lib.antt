@@ -1,4 +1,5 @@
 pub mod Entries
 pub mod Nths
+pub mod Walking
 pub mod Sounds
 pub mod Integers

@@ -6,3 +6,4 @@ pub mod clause;
 pub mod condition;
 pub mod fault;
 pub mod part;
+pub mod walk;

@@ -5,3 +5,4 @@ pub mod Heads
 pub mod Laws
 pub mod Certified
 pub mod Loops
+pub mod Sequences

@@ -4,3 +4,4 @@ pub mod Faults
 pub mod Files
 pub mod Lawful
 pub mod Certificates
+pub mod Sequences

@@ -6,7 +6,7 @@ ghost use Rattle.fields.specs.declared.fault.FaultKind.{FaultKind};
 
 use crate::fault::{FaultKind, FieldFault};
 use crate::head::cut_field;
-use crate::number::split_u32;
+use crate::number::Number;
 
 /// What a certificate holds.
 #[derive(Clone, Copy, PartialEq, Eq, Debug)]
@@ -49,7 +49,7 @@ fn judge_certificate(kind: CertificateKind, input: &[u8]) -> Result<Certificate<
     if !rest.is_empty() {
         return Err(FaultKind::BadLength);
     }
-    let Some((label, values)) = split_u32(field.body) else {
+    let Some((label, values)) = u32::split(field.body) else {
         return Err(FaultKind::BadLength);
     };
     Ok(Certificate { label, values })
@@ -66,8 +66,5 @@ pub fn read_certificate(kind: CertificateKind, input: &[u8]) -> Result<Certifica
     ensures refuses { (k : FaultKind) → First (certificate_checks kind input.now) k →
         MatchResult result (λ _. ⊥) (λ e. e.kind ≡ k) }
 {
-    match judge_certificate(kind, input) {
-        Ok(certificate) => Ok(certificate),
-        Err(kind) => Err(FieldFault { kind, offset: 0 }),
-    }
+    judge_certificate(kind, input).map_err(|kind| FieldFault { kind, offset: 0 })
 }

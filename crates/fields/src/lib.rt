@@ -5,3 +5,4 @@ pub mod certificate;
 pub mod fault;
 pub mod head;
 pub mod number;
+pub mod sequence;

@@ -1,7 +1,7 @@
 use Rattle.std.proofs.Common.{◌∙◌, w64, SFits, rules}
 use Rattle.std.proofs.lemmas.Int.{to_z-of_z}
 use Rattle.fields.proofs.Numbers.{split_signed_8}
-use Rattle.fields.proofs.number.split_i64.Goals as goal
+use Rattle.fields.proofs.number.I64Number.split.Goals as goal
 
 pub returns : goal.returns
 returns c =

@@ -1,7 +1,7 @@
 use Rattle.std.proofs.Common.{◌∙◌, w32, SFits, rules}
 use Rattle.std.proofs.lemmas.Int.{to_z-of_z}
 use Rattle.fields.proofs.Numbers.{split_signed_4}
-use Rattle.fields.proofs.number.split_i32.Goals as goal
+use Rattle.fields.proofs.number.I32Number.split.Goals as goal
 
 pub returns : goal.returns
 returns c =
