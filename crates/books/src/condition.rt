@@ -5,7 +5,7 @@ ghost use Rattle.books.specs.Conditions.{sound_column, sound_side, sides_in_orde
 
 use crate::part::Column;
 use listing_fields::range::{are_limits, is_price, is_side};
-use listing_fields::term::Term;
+use listing_fields::term::{Term, are_in_range, refer, rise};
 
 impl Column {
     /// Whether the limits, if they are those of a switch, are within 0 and 1.
@@ -48,37 +48,11 @@ pub fn are_sound_sides(lower: Option<i64>, upper: Option<i64>) -> bool
     is_sound_side(lower) && is_sound_side(upper) && are_in_order(lower, upper)
 }
 
-/// Whether each coefficient is in range.
-fn terms_in_range(terms: &[Term]) -> bool
-    ensures { result ≡ terms_in_range terms.now }
-{
-    terms.iter().all(|term| term.is_in_range())
-}
-
-/// Whether each term names one of so many columns.
-fn terms_refer(columns: usize, terms: &[Term]) -> bool
-    ensures { result ≡ terms_refer columns terms.now }
-{
-    terms.iter().all(|term| term.refers(columns))
-}
-
-/// Whether the columns rise strictly and no coefficient is nought.
-fn terms_rise(terms: &[Term]) -> bool
-    ensures { result ≡ terms_rise 0 terms.now }
-{
-    let mut least = 0;
-    for term in terms {
-        if !term.rises(least) {
-            return false;
-        }
-        least = usize::from(term.column) + 1;
-    }
-    true
-}
-
 /// Whether the terms of a row over so many columns keep the conditions.
 pub fn are_sound_terms(columns: usize, terms: &[Term]) -> bool
     ensures { result ≡ (terms_in_range terms.now && terms_refer columns terms.now && terms_rise 0 terms.now) }
 {
-    terms_in_range(terms) && terms_refer(columns, terms) && terms_rise(terms)
+    are_in_range(terms.iter().copied())
+        && refer(columns, terms.iter().copied())
+        && rise(terms.iter().copied())
 }

@@ -6,4 +6,5 @@ pub mod range;
 pub mod read;
 pub mod record;
 mod row;
+pub mod sides;
 pub mod term;
