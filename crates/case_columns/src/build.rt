@@ -70,13 +70,11 @@ impl Position {
     fn line(self, heap: Global, line: Line<'_>) -> Result<Vec<Named>, AllocError>
         ensures { IfOk result (λ v. v.items ≡ columns_of self.kinds self.place (line_meant line.entry)) }
     {
-        let mut columns = Vec::from_slice(heap, &self.line_front(line))?;
-        let mut i = 0;
-        while let Some(point) = line.points.get(i) {
-            columns.push(weight(self.place, point))?;
-            i += 1;
-        }
-        Ok(columns)
+        let place = self.place;
+        self.line_front(line)
+            .into_iter()
+            .chain(line.points.iter().map(|point| weight(place, point)))
+            .collect(heap)
     }
 
     /// The columns of an energy offer before its blocks.
@@ -96,27 +94,24 @@ impl Position {
     fn offer(self, heap: Global, offer: EnergyOffer<'_>) -> Result<Vec<Named>, AllocError>
         ensures { IfOk result (λ v. v.items ≡ columns_of self.kinds self.place (energy_offer_meant offer.entry)) }
     {
-        let mut columns = Vec::from_slice(heap, &self.offer_front(offer))?;
-        let mut i = 0;
-        while let Some(block) = offer.blocks.get(i) {
-            columns.push(sold(Quantity::OfferBlock, self.place, block))?;
-            i += 1;
-        }
-        Ok(columns)
+        let place = self.place;
+        let blocks = offer.blocks.iter();
+        self.offer_front(offer)
+            .into_iter()
+            .chain(blocks.map(|block| sold(Quantity::OfferBlock, place, block)))
+            .collect(heap)
     }
 
     /// The columns of a bid.
     fn bid(self, heap: Global, bid: Bid<'_>) -> Result<Vec<Named>, AllocError>
         ensures { IfOk result (λ v. v.items ≡ columns_of self.kinds self.place (bid_meant bid.entry)) }
     {
-        let purchase = free(Quantity::Purchase, self.place, self.node_place(bid.node));
-        let mut columns = Vec::from_slice(heap, &[purchase])?;
-        let mut i = 0;
-        while let Some(block) = bid.blocks.get(i) {
-            columns.push(bought(self.place, block))?;
-            i += 1;
-        }
-        Ok(columns)
+        let place = self.place;
+        let purchase = free(Quantity::Purchase, place, self.node_place(bid.node));
+        [purchase]
+            .into_iter()
+            .chain(bid.blocks.iter().map(|block| bought(place, block)))
+            .collect(heap)
     }
 
     /// The columns of a regulation offer before its blocks.
@@ -137,13 +132,12 @@ impl Position {
     fn regulation(self, heap: Global, offer: RegulationOffer<'_>) -> Result<Vec<Named>, AllocError>
         ensures { IfOk result (λ v. v.items ≡ columns_of self.kinds self.place (regulation_offer_meant offer.entry)) }
     {
-        let mut columns = Vec::from_slice(heap, &self.regulation_front(offer))?;
-        let mut i = 0;
-        while let Some(block) = offer.blocks.get(i) {
-            columns.push(sold(Quantity::RegulationBlock, self.place, block))?;
-            i += 1;
-        }
-        Ok(columns)
+        let place = self.place;
+        let blocks = offer.blocks.iter();
+        self.regulation_front(offer)
+            .into_iter()
+            .chain(blocks.map(|block| sold(Quantity::RegulationBlock, place, block)))
+            .collect(heap)
     }
 
     /// The column of the requirement.

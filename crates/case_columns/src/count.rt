@@ -18,10 +18,7 @@ fn span_of(records: &[CaseRecord<'_>], kind: RecordKind) -> Span
     let tag = kind.tag();
     Span {
         first: records.iter().filter(|given| given.tag() < tag).count(),
-        past: records
-            .iter()
-            .filter(|given| given.tag() <= tag)
-            .count(),
+        past: records.iter().filter(|given| given.tag() <= tag).count(),
     }
 }
 
