@@ -64,7 +64,7 @@ fn is_like(book: &ClauseBook, j: usize, name: Name) -> bool
 {
     match book.named(j) {
         Some(other) => {
-            other.name.place == name.place && other.name.quantity as u8 == name.quantity as u8
+            other.name.place == name.place && other.name.quantity == name.quantity
         }
         None => false,
     }
