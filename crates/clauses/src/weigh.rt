@@ -1,17 +1,9 @@
 //! The coefficient of a column in a sum.
-ghost use Rattle.std.specs.Prelude.{◌≡◌, pos, neg_ℤ, ◌≤ℤ◌, ◌==◌};
-ghost use Rattle.case_columns.specs.declared.name.Quantity.{Quantity as AQuantity};
-ghost use Rattle.clauses.specs.Sums.{number_of, at_ends, picks, factor as factor_of, amount as amount_of, coefficient as all_amounts};
+ghost use Rattle.std.specs.Prelude.{◌≡◌, pos, neg_ℤ, ◌≤ℤ◌};
+ghost use Rattle.clauses.specs.Sums.{at_ends, picks, factor as factor_of, amount as amount_of, coefficient as all_amounts};
 
 use crate::sum::{Ends, Factor, Item, Pick};
-use case_columns::name::{Name, Quantity};
-
-/// Whether two quantities are the same.
-fn is_same(a: Quantity, b: Quantity) -> bool
-    ensures { result ≡ (number_of a == number_of b) }
-{
-    a == b
-}
+use case_columns::name::Name;
 
 /// Whether a column is where it counts.
 fn is_at(ends: Ends, name: Name) -> bool
@@ -30,7 +22,7 @@ fn is_picked(pick: Pick, name: Name) -> bool
 {
     pick.first <= name.place
         && name.place < pick.past
-        && is_same(name.quantity, pick.quantity)
+        && name.quantity == pick.quantity
         && is_at(pick.ends, name)
 }
 
