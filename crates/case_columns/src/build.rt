@@ -170,6 +170,7 @@ impl Position {
 }
 
 /// The named columns of a case, in file order.
+#[tactic(auto, using(crate::proofs::Owned::own_added))]
 pub fn table_of(heap: Global, records: &[CaseRecord<'_>]) -> Result<Table, AllocError>
     ensures { IfOk result (λ t. columns_in t ≡ all_columns (map meant records.now)) }
 {

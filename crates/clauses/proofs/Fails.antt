@@ -11,9 +11,3 @@ pub fails_within : {X : Type 0} (p : X → Bool) (xs ys zs : List X) → list_al
 fails_within p xs ys zs h =
     list_all-append p xs (ys ++ zs)
     ∙ and_right (list_all p xs) _ (list_all-append p ys zs ∙ and_left (list_all p ys) (list_all p zs) h)
-
--- of one that a record gives
-pub fails_given : {K X Y R : Type 0} (p : Y → Bool) (F : K → ℕ → X → List Y) (k : K) (m : R → X) (rs : List R) (r : ℕ) (xs whole : List Y) (j : K) (d : R) → r < length rs → j ≡ k → list_all p (F j r (m (get_or rs r d))) ≡ false → xs ++ spread (F k) r (map m (drop r rs)) ≡ whole → list_all p whole ≡ false
-fails_given p F k m rs r xs whole j d h e f inv =
-    ap (list_all p) (sym inv ∙ ap (◌++◌ xs) (at_drop_more (λ l. spread (F k) r (map m l)) rs r d h))
-    ∙ fails_within p xs (F k r (m (get_or rs r d))) _ (ap (λ i. list_all p (F i r (m (get_or rs r d)))) (sym e) ∙ f)

@@ -3,3 +3,4 @@ pub mod Walks
 pub mod Products
 pub mod Single
 pub mod Fails
+pub mod Steps

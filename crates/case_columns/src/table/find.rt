@@ -38,6 +38,7 @@ impl Table {
     }
 
     /// From a column on, the first that belongs to a record from one place to before another, or the number of columns if there is none.
+    #[tactic(auto, using(crate::proofs::Places::not_before, crate::proofs::Places::not_after))]
     pub fn next_among(&self, first: usize, past: usize, from: usize) -> usize
         ensures low { from ≤ length (columns_in self.now) → from ≤ result }
         ensures high { result ≤ length (columns_in self.now) }

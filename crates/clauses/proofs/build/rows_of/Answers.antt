@@ -6,7 +6,7 @@ use Rattle.case_fields.specs.Meant.{meant}
 use Rattle.stored_book.specs.Stored.{full_row}
 use Rattle.case_columns.specs.Spread.{spread}
 use Rattle.case_columns.specs.Tables.{columns_in}
-use Rattle.case_columns.proofs.Steps.{given, all_given, spread_map}
+use Rattle.clauses.proofs.Steps.{given, all_given, spread_map}
 use Rattle.clauses.specs.Rows.{row_of}
 use Rattle.clauses.specs.Stored.{rows_in, holds_row}
 use Rattle.clauses.specs.declared.error.ClauseError.TheVariants.{OutOfRange}
@@ -32,16 +32,6 @@ loop-place-preserved c =
     ∙ map-append full_row (vec_items c.loop-place.rows) (vec_items c.in_ok-rows.field-0)
     ∙ ap (λ l. rows_in c.loop-place.rows ++ l) c.in_ok-rows.ensures in
     given (λ (m : Common) r e. map row (clauses_of m r e)) (common (map meant rs)) meant rs c.loop-place.place _ _ _ _ _ _ c.loop-place-test.true (λ i. record { kinds = k i; allowance = (a ∙ c.allowance_of-allowance.ensures) i }) refl added c.loop-place.invariant
-
-pub returns-in_err-rows-clause-rows : goal.returns-in_err-rows-clause-rows
-returns-in_err-rows-clause-rows c =
-    let rs = c.args.records.now in
-    let row = row_of (columns_in c.args.table.now) in
-    let k = c.kinds_of-kinds.ensures.value in
-    let a : to_z w32 (of_z w32 c.allowance_of-allowance.result) ≡ c.allowance_of-allowance.result = omega (arith, ints) in
-    let out : c.in_err-rows.field-0.0 ≡ OutOfRange → list_all holds_row (map row (clauses (map meant rs))) ≡ false =
-    λ e. fails_given holds_row (λ (m : Common) r d. map row (clauses_of m r d)) (common (map meant rs)) meant rs c.loop-place.place _ _ _ _ c.loop-place-test.true (λ i. record { kinds = k i; allowance = (a ∙ c.allowance_of-allowance.ensures) i }) (c.in_err-rows.ensures e) c.loop-place.invariant in
-    search rules
 
 pub returns : goal.returns
 returns c =
