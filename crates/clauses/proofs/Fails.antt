@@ -1,10 +1,8 @@
 -- A test that fails of one of a list.
-use Rattle.std.proofs.Common.{◌≡◌, ℕ, ◌<◌, Bool, false, List, ◌++◌, map, length, get_or, drop, sym, ap, ◌∙◌}
+use Rattle.std.proofs.Common.{◌≡◌, Bool, false, List, ◌++◌, ◌∙◌}
 use Rattle.std.specs.List.{list_all}
 use Rattle.std.proofs.lemmas.Bool.{and_left, and_right}
-use Rattle.std.proofs.lemmas.List.{at_drop_more}
 use Rattle.std.proofs.lemmas.List.Folds.{list_all-append}
-use Rattle.case_columns.specs.Spread.{spread}
 
 -- of one in the middle
 pub fails_within : {X : Type 0} (p : X → Bool) (xs ys zs : List X) → list_all p ys ≡ false → list_all p (xs ++ (ys ++ zs)) ≡ false

@@ -1,17 +1,14 @@
-use Rattle.std.proofs.Common.{◌≡◌, ◌++◌, false, map, vec_items, sym, refl, ap, ◌∙◌, arith, rules, w32, to_z, of_z}
+use Rattle.std.proofs.Common.{◌≡◌, ◌++◌, map, vec_items, sym, refl, ap, ◌∙◌, arith, w32, to_z, of_z}
 use Rattle.std.proofs.lemmas.Int.{ints}
 use Rattle.std.proofs.lemmas.List.{map-append}
-use Rattle.std.specs.List.{list_all}
 use Rattle.case_fields.specs.Meant.{meant}
 use Rattle.stored_book.specs.Stored.{full_row}
 use Rattle.case_columns.specs.Spread.{spread}
 use Rattle.case_columns.specs.Tables.{columns_in}
 use Rattle.clauses.proofs.Steps.{given, all_given, spread_map}
 use Rattle.clauses.specs.Rows.{row_of}
-use Rattle.clauses.specs.Stored.{rows_in, holds_row}
-use Rattle.clauses.specs.declared.error.ClauseError.TheVariants.{OutOfRange}
+use Rattle.clauses.specs.Stored.{rows_in}
 use Rattle.clauses.specs.Clauses.{Common, common, clauses_of, clauses}
-use Rattle.clauses.proofs.Fails.{fails_given}
 use Rattle.clauses.proofs.Single.{singly}
 use Rattle.clauses.proofs.build.rows_of.Goals as goal
 
