@@ -5,7 +5,7 @@ use Rattle.case_fields.specs.Kinds.{both}
 use Rattle.case_fields.specs.Entries.{RegulationOffer, Entry}
 use Rattle.case_fields.specs.Entries.Entry.{regulation_offer}
 use Rattle.case_fields.specs.Encoding.{tag}
-use Rattle.case_fields.specs.Summaries.{SumsUp}
+use Rattle.case_fields.specs.Summaries.{SumsUp, last_tag}
 use Rattle.case_fields.specs.Tests.{either, one, tag_of_last, count, regulates, regulated, refers}
 
 last_push : (es : List Entry) (e : Entry) → tag_of_last (es ++ e ∷ []) ≡ tag e
@@ -34,7 +34,7 @@ some_push (suc n) true = grind arith
 some_push n false = ap (ltb 0) (omega arith)
 
 -- each part of the summary follows from the record's tag, and the marks from the offer that it regulates
-pub one_more : (s t : Summary) (es : List Entry) (d e : Entry) → d ≡ e → SumsUp s es → t.last_tag ≡ tag d → t.has_period ≡ either (eqb (tag e) 1) s.has_period → t.has_requirement ≡ either (eqb (tag e) 15) s.has_requirement → t.nodes ≡ s.nodes + one (eqb (tag e) 2) → vec_len t.regulated ≡ vec_len s.regulated + one (eqb (tag e) 4) → ((k : ℕ) → get_or (vec_items t.regulated) k false ≡ either (regulates k e) (get_or (vec_items s.regulated) k false)) → SumsUp t (es ++ d ∷ [])
+pub one_more : (s t : Summary) (es : List Entry) (d e : Entry) → d ≡ e → SumsUp s es → last_tag t.last ≡ tag d → t.has_period ≡ either (eqb (tag e) 1) s.has_period → t.has_requirement ≡ either (eqb (tag e) 15) s.has_requirement → t.nodes ≡ s.nodes + one (eqb (tag e) 2) → vec_len t.regulated ≡ vec_len s.regulated + one (eqb (tag e) 4) → ((k : ℕ) → get_or (vec_items t.regulated) k false ≡ either (regulates k e) (get_or (vec_items s.regulated) k false)) → SumsUp t (es ++ d ∷ [])
 one_more s t es d e is u last period requirement nodes offers marks =
     subst (λ (x : Entry). SumsUp t (es ++ x ∷ [])) (sym is)
     (record {

@@ -1,11 +1,18 @@
 -- What a summary of records says of them.
-use Rattle.std.specs.Prelude.{◌≡◌, ℕ, false, List, vec_items, vec_len, nat_lt, slice_index_or}
+use Rattle.std.specs.Prelude.{◌≡◌, ℕ, Some, None, Option, false, List, vec_items, vec_len, nat_lt, slice_index_or}
 use Rattle.case_fields.specs.declared.summary.Summary.{Summary}
+use Rattle.case_fields.specs.declared.kind.RecordKind.{RecordKind}
+use Rattle.case_fields.specs.Kinds.{tag_of}
 use Rattle.case_fields.specs.Entries.{Entry}
 use Rattle.case_fields.specs.Tests.{tag_of_last, count, regulated}
 
+-- the tag of the last record's kind, nought before the first
+abbrev pub last_tag : Option RecordKind → ℕ
+last_tag None = 0
+last_tag (Some k) = tag_of k
+
 pub record SumsUp (s : Summary) (es : List Entry) : Type 0 where
-  pub last : s.last_tag ≡ tag_of_last es
+  pub last : last_tag s.last ≡ tag_of_last es
   pub period : s.has_period ≡ nat_lt 0 (count 1 es)
   pub requirement : s.has_requirement ≡ nat_lt 0 (count 15 es)
   pub nodes : s.nodes ≡ count 2 es

@@ -59,7 +59,7 @@ fn is_like(book: &ClauseBook, j: usize, name: Name) -> bool
     ensures { result ≡ is_like (slice_get (named_in book.now) j) name }
 {
     book.named(j).is_some_and(|other| {
-        other.name.place == name.place && other.name.quantity as u8 == name.quantity as u8
+        other.name.place == name.place && other.name.quantity == name.quantity
     })
 }
 

@@ -14,8 +14,8 @@ fn mark(marks: &mut Vec<bool>, place: usize)
     ensures items { marks.new.items ≡ slice_set marks.old.items place true }
     ensures len { vec_len marks.new ≡ vec_len marks.old }
 {
-    if place < marks.len() {
-        marks[place] = true;
+    if let Some(mark) = marks.get_mut(place) {
+        *mark = true;
     }
 }
 
@@ -26,15 +26,17 @@ impl Summary {
         ensures sums { (es : List Entry) → SumsUp self.old es → refers es (meant «record».entry) ≡ true → OnOk result (SumsUp self.new (es ++ meant «record».entry ∷ [])) }
         ensures grows { self.new.nodes ≤ self.old.nodes + 1 }
     {
-        self.last_tag = record.tag();
+        self.last = Some(record.kind());
         match record {
-            CaseRecord::Period { .. } => self.has_period = true,
-            CaseRecord::Node { .. } => self.nodes += 1,
-            CaseRecord::EnergyOffer { .. } => self.regulated.push(false)?,
-            CaseRecord::RegulationOffer { offer, .. } => mark(&mut self.regulated, offer as usize),
-            CaseRecord::Requirement { .. } => self.has_requirement = true,
-            CaseRecord::Line { .. } => {}
-            CaseRecord::Bid { .. } => {}
+            CaseRecord::Period(_) => self.has_period = true,
+            CaseRecord::Node(_) => self.nodes += 1,
+            CaseRecord::EnergyOffer(_) => self.regulated.push(false)?,
+            CaseRecord::RegulationOffer(regulation) => {
+                mark(&mut self.regulated, regulation.offer as usize)
+            }
+            CaseRecord::Requirement(_) => self.has_requirement = true,
+            CaseRecord::Line(_) => {}
+            CaseRecord::Bid(_) => {}
         }
         Ok(())
     }
