@@ -13,19 +13,29 @@ use Rattle.books.specs.Walks.{heads_of, terms_of}
 
 -- ---- what the walks go through
 
-module _ {X : Type 0} (m : X → Lists) where
-  pub columns_road : {s : Columns X} (b : Lists) → m s.book.now ≡ b → s.next ≡ 0 → YieldsList (YieldsFirst (λ (w : Columns X). drop w.next (m w.book.now).columns)) (λ c. c) s b.columns
-  columns_road {s} b e n =
-      YieldsList-from_first (λ c. c) (λ (w : Columns X). drop w.next (m w.book.now).columns) b.columns (ap (λ k. drop k (m s.book.now).columns) n ∙ ap (λ (l : Lists). l.columns) e)
+module _ {X : Type 0} (m : X → Lists) (x : X) where
+  -- at the start all is left
+  pub columns_left : (s : Columns X) → s.book.now ≡ x → s.next ≡ 0 → drop s.next (m s.book.now).columns ≡ (m x).columns
+  columns_left s e n = ap (λ k. drop k (m s.book.now).columns) n ∙ ap (λ (y : X). (m y).columns) e
 
-  pub rows_road : {s : Rows X} (b : Lists) → m s.book.now ≡ b → s.next ≡ 0 → YieldsList (YieldsFirst (λ (w : Rows X). drop w.next (heads_of (m w.book.now)))) (λ r. r) s (heads_of b)
-  rows_road {s} b e n =
-      YieldsList-from_first (λ r. r) (λ (w : Rows X). drop w.next (heads_of (m w.book.now))) (heads_of b) (ap (λ k. drop k (heads_of (m s.book.now))) n ∙ ap heads_of e)
+  pub heads_left : (s : Rows X) → s.book.now ≡ x → s.next ≡ 0 → drop s.next (heads_of (m s.book.now)) ≡ heads_of (m x)
+  heads_left s e n = ap (λ k. drop k (heads_of (m s.book.now))) n ∙ ap (λ (y : X). heads_of (m y)) e
 
-  pub terms_road : {s : Terms X} (b : Lists) (i : ℕ) → m s.book.now ≡ b → s.row ≡ i → s.next ≡ 0 → YieldsList (YieldsFirst (λ (w : Terms X). drop w.next (terms_of (m w.book.now) w.row))) (λ t. t) s (terms_of b i)
-  terms_road {s} b i e r n =
-      YieldsList-from_first (λ t. t) (λ (w : Terms X). drop w.next (terms_of (m w.book.now) w.row)) (terms_of b i)
-      (ap (λ k. drop k (terms_of (m s.book.now) s.row)) n ∙ ap (terms_of (m s.book.now)) r ∙ ap (λ l. terms_of l i) e)
+  pub terms_left : (s : Terms X) (i : ℕ) → s.book.now ≡ x → s.row ≡ i → s.next ≡ 0 → drop s.next (terms_of (m s.book.now) s.row) ≡ terms_of (m x) i
+  terms_left s i e r n =
+      ap (λ k. drop k (terms_of (m s.book.now) s.row)) n ∙ ap (terms_of (m s.book.now)) r ∙ ap (λ (y : X). terms_of (m y) i) e
+
+  pub columns_road : {s : Columns X} → s.book.now ≡ x → s.next ≡ 0 → YieldsList (YieldsFirst (λ (w : Columns X). drop w.next (m w.book.now).columns)) (λ c. c) s (m x).columns
+  columns_road {s} e n =
+      YieldsList-from_first (λ c. c) (λ (w : Columns X). drop w.next (m w.book.now).columns) (m x).columns (columns_left s e n)
+
+  pub rows_road : {s : Rows X} → s.book.now ≡ x → s.next ≡ 0 → YieldsList (YieldsFirst (λ (w : Rows X). drop w.next (heads_of (m w.book.now)))) (λ r. r) s (heads_of (m x))
+  rows_road {s} e n =
+      YieldsList-from_first (λ r. r) (λ (w : Rows X). drop w.next (heads_of (m w.book.now))) (heads_of (m x)) (heads_left s e n)
+
+  pub terms_road : {s : Terms X} (i : ℕ) → s.book.now ≡ x → s.row ≡ i → s.next ≡ 0 → YieldsList (YieldsFirst (λ (w : Terms X). drop w.next (terms_of (m w.book.now) w.row))) (λ t. t) s (terms_of (m x) i)
+  terms_road {s} i e r n =
+      YieldsList-from_first (λ t. t) (λ (w : Terms X). drop w.next (terms_of (m w.book.now) w.row)) (terms_of (m x) i) (terms_left s i e r n)
 
 pub elements_road : {T : Type 0} (held : List ℕ → List T) {s : Elements T} (bs : List ℕ) → s.rest.now ≡ bs → YieldsList (YieldsFirst (λ (w : Elements T). held w.rest.now)) (λ x. x) s (held bs)
 elements_road {T} held bs e =

@@ -17,14 +17,9 @@ use Rattle.books.specs.Schedules.{activity, benefit}
 use Rattle.books.proofs.Sounds.{Within, within_parts, sound_column_parts, sound_parts, row_sound, row_short}
 use Rattle.certificates.specs.declared.fault.DocketFault.{DocketFault}
 use Rattle.certificates.specs.declared.fault.DocketFault.TheVariants.{ColumnBroken, RowBroken}
-use Rattle.certificates.specs.Checks.{within_limits, first_broken_column, within_sides, first_broken_row}
-use Rattle.schedules.specs.Turns.{passed}
+use Rattle.certificates.specs.Checks.{within_limits, first_broken_column, within_sides, first_broken_row, passed}
+use Rattle.certificates.proofs.Passed.{cond_none}
 use Rattle.schedules.proofs.Magnitudes.{within_times}
-
--- a check that passes leaves the rest, and one that fails is the fault
-pub cond_none : (t : Bool) (f : DocketFault) (r : Option DocketFault) → cond t r (Some f) ≡ None → (t ≡ true) × (r ≡ None)
-cond_none true f r e = (refl, e)
-cond_none false f r e = cc
 
 -- the first column beyond its limits is the first pair that fails
 not_cond : (t : Bool) (a b : Option DocketFault) → cond t a b ≡ cond (not t) b a
@@ -57,14 +52,6 @@ columns_checked cs xs o r Tells at err is =
     by : (p : Option ℕ) → MatchOption p (r ≡ Ok tt) Tells → r ≡ passed (option_map ColumnBroken p)
     by None e = e
     by (Some j) e = err j e
-
-pub fault_is : (o : Option DocketFault) (f : DocketFault) → Err f ≡ passed o → o ≡ Some f
-fault_is None f e = cc
-fault_is (Some h) f e = cc
-
-pub none_is : (o : Option DocketFault) (u : Unit {0}) → Ok u ≡ passed o → o ≡ None
-none_is None u e = refl
-none_is (Some h) u e = cc
 
 -- ---- rows, each with its number
 

@@ -12,10 +12,10 @@ use Rattle.books.proofs.Sounds.{sound_parts, sound_column_parts}
 use Rattle.certificates.specs.declared.fault.DocketFault.{DocketFault}
 use Rattle.certificates.specs.declared.fault.DocketFault.TheVariants.{ValueCount, ColumnBroken, RowBroken, BenefitBeyond}
 use Rattle.certificates.specs.Values.{quantities}
-use Rattle.certificates.specs.Checks.{unless, right_count, within_limits, first_broken_column, above_lower, below_upper, within_sides, first_broken_row, benefit_reaches, beyond_benefit, judged_schedule, schedule_answer, SchedulePasses}
+use Rattle.certificates.specs.Checks.{unless, right_count, within_limits, first_broken_column, above_lower, below_upper, within_sides, first_broken_row, benefit_reaches, beyond_benefit, judged_schedule, schedule_answer, SchedulePasses, passed}
 use Rattle.certificates.specs.Held.{quantities_held}
-use Rattle.schedules.specs.Turns.{passed}
-use Rattle.schedules.proofs.Scans.{cond_none, limits_parts, fault_is, none_is}
+use Rattle.certificates.proofs.Passed.{cond_none, fault_is, none_is}
+use Rattle.schedules.proofs.Scans.{limits_parts}
 
 one_times : (z : ℤ) → pos 1 *ℤ z ≡ z
 one_times z = omega (arith, ints)

@@ -3,8 +3,7 @@ ghost use Rattle.std.specs.Prelude.{◌≡◌, pos, ◌*ℤ◌, None, slice_inde
 ghost use Rattle.books.specs.Schedules.{activity as row_activity};
 ghost use Rattle.books.specs.Walks.{terms_of};
 ghost use Rattle.certificates.specs.Values.{quantities};
-ghost use Rattle.certificates.specs.Checks.{first_broken_column, within_sides, first_broken_row};
-ghost use Rattle.schedules.specs.Turns.{passed};
+ghost use Rattle.certificates.specs.Checks.{first_broken_column, within_sides, first_broken_row, passed};
 
 use crate::product::product;
 use books::book::Book;

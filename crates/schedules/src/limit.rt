@@ -2,8 +2,7 @@
 ghost use Rattle.std.specs.Prelude.{◌≡◌, not};
 ghost use Rattle.std.specs.List.{zip, position};
 ghost use Rattle.certificates.specs.Values.{quantities};
-ghost use Rattle.certificates.specs.Checks.{within_limits, first_broken_column};
-ghost use Rattle.schedules.specs.Turns.{passed};
+ghost use Rattle.certificates.specs.Checks.{within_limits, first_broken_column, passed};
 
 use books::book::Book;
 use books::part::Column;

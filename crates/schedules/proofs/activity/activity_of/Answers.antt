@@ -14,7 +14,7 @@ turn g c =
     let b = g.B.Book.meaning c.args.book.now in
     let xs = quantities c.args.values.bytes.now in
     let loop = c.loop-term in
-    let road = terms_road g.B.Book.meaning {s = c.into_iter-term-iterator.result} b c.args.i (cc) (cc) (cc) in
+    let road = terms_road g.B.Book.meaning c.args.book.now {s = c.into_iter-term-iterator.result} c.args.i (cc) (cc) (cc) in
     let front = left_more road loop.yielded loop.term-iterator loop.yielded_by _ c.next.new.self c.in-Some.term c.in-Some.is c.next.ensures.steps in
     let below = left_few road loop.yielded loop.term-iterator loop.yielded_by _ c.next.new.self c.in-Some.term c.in-Some.is c.next.ensures.steps in
     let small = terms_small b (g.met.B.Book.kept c.args.book.now) xs c.requires c.args.i in
@@ -32,5 +32,5 @@ returns g c =
     let b = g.B.Book.meaning c.args.book.now in
     let xs = quantities c.args.values.bytes.now in
     let loop = c.loop-term in
-    let road = terms_road g.B.Book.meaning {s = c.into_iter-term-iterator.result} b c.args.i (cc) (cc) (cc) in
+    let road = terms_road g.B.Book.meaning c.args.book.now {s = c.into_iter-term-iterator.result} c.args.i (cc) (cc) (cc) in
     sum_ends loop.invariant.2 (ap (λ l. activity l xs) (left_none road loop.yielded loop.term-iterator loop.yielded_by _ c.next.new.self c.in-None.is c.next.ensures.steps))

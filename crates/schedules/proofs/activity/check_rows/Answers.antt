@@ -22,7 +22,7 @@ pub returns : goal.returns
 returns g c =
     let b = g.B.Book.meaning c.args.book.now in
     let xs = quantities c.args.values.bytes.now in
-    let road = YieldsList-from_enumerate {s = c.enumerate.result} (rows_road g.B.Book.meaning b (cc) (cc)) (cc) in
+    let road = YieldsList-from_enumerate {s = c.enumerate.result} (rows_road g.B.Book.meaning c.args.book.now (cc) (cc)) (cc) in
     rows_checked b xs c.find.result c.map_or.result _
     (find_from_yields_List (beyond_sides (λ i. activity (terms_of b i) xs)) c.find.new.self _ c.find.result c.find.ensures.ran road (λ x t q k. search (rules, tests)))
     (λ p k. search rules) c.map_or.ensures

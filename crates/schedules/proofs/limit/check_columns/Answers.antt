@@ -18,7 +18,7 @@ pub returns : goal.returns
 returns g c =
     let b = g.B.Book.meaning c.args.book.now in
     let vs = c.args.values.bytes.now in
-    let road = YieldsList-from_zip {s = c.zip.result} (columns_road g.B.Book.meaning b (cc) (cc)) (elements_road quantities vs (cc)) in
+    let road = YieldsList-from_zip {s = c.zip.result} (columns_road g.B.Book.meaning c.args.book.now (cc) (cc)) (elements_road quantities vs (cc)) in
     columns_checked b.columns (quantities vs) c.position.result c.map_or.result _
     (position_from_yields_List beyond c.position.new.self _ c.position.result c.position.ensures.ran road (λ x b q k. search (rules, tests)))
     (λ j p. search rules) c.map_or.ensures

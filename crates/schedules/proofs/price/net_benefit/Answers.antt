@@ -19,7 +19,7 @@ turn g c =
     let loop = c.loop-column in
     let fits : SFits w32 c.into.result = search rules in
     let sound = sound_parts b (g.met.B.Book.kept c.args.book.now) in
-    let road = YieldsList-from_zip {s = c.into_iter-column-iterator.result} (columns_road g.B.Book.meaning b (cc) (cc)) (elements_road quantities c.args.values.bytes.now (cc)) in
+    let road = YieldsList-from_zip {s = c.into_iter-column-iterator.result} (columns_road g.B.Book.meaning c.args.book.now (cc) (cc)) (elements_road quantities c.args.values.bytes.now (cc)) in
     let front = left_more road loop.yielded loop.column-iterator loop.yielded_by _ c.next.new.self (c.in-Some.column, c.in-Some.value) c.in-Some.is c.next.ensures.steps in
     let below = left_few road loop.yielded loop.column-iterator loop.yielded_by _ c.next.new.self (c.in-Some.column, c.in-Some.value) c.in-Some.is c.next.ensures.steps in
     let pairs = length-zip b.columns xs in
@@ -39,5 +39,5 @@ returns g c =
     let b = g.B.Book.meaning c.args.book.now in
     let xs = quantities c.args.values.bytes.now in
     let loop = c.loop-column in
-    let road = YieldsList-from_zip {s = c.into_iter-column-iterator.result} (columns_road g.B.Book.meaning b (cc) (cc)) (elements_road quantities c.args.values.bytes.now (cc)) in
+    let road = YieldsList-from_zip {s = c.into_iter-column-iterator.result} (columns_road g.B.Book.meaning c.args.book.now (cc) (cc)) (elements_road quantities c.args.values.bytes.now (cc)) in
     sum_ends loop.invariant.2 (ap gains (left_none road loop.yielded loop.column-iterator loop.yielded_by _ c.next.new.self c.in-None.is c.next.ensures.steps)) ∙ sym (benefit_pairs b.columns xs)
