@@ -1,2 +1,4 @@
 pub mod Numbers
 pub mod Weak
+pub mod Roads
+pub mod Passed

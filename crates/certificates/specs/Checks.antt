@@ -15,6 +15,11 @@ abbrev pub unless : Option DocketFault → Result ℤ DocketFault → Result ℤ
 unless (Some f) r = Err f
 unless None r = r
 
+-- a check that finds a fault, or passes
+abbrev pub passed : Option DocketFault → Result (Unit {0}) DocketFault
+passed None = Ok tt
+passed (Some f) = Err f
+
 -- the value bytes divide by the width, and are so many numbers
 abbrev pub right_count : ℕ → ℕ → List ℕ → Bool
 right_count width n values = length values % width == 0 && length values / width == n

@@ -4,3 +4,4 @@ pub mod Bounds
 pub mod Steps
 pub mod Checks
 pub mod Duality
+pub mod Held

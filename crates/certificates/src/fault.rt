@@ -42,8 +42,7 @@ impl DocketFault {
             DocketFault::BenefitBeyond => 23,
             DocketFault::MultiplierBeyond { .. } => 24,
             DocketFault::SideAbsent { .. } => 25,
-            DocketFault::RowBeyond { .. } => 26,
-            DocketFault::ColumnBeyond { .. } => 26,
+            DocketFault::RowBeyond { .. } | DocketFault::ColumnBeyond { .. } => 26,
         }
     }
 
@@ -53,14 +52,14 @@ impl DocketFault {
     {
         match self {
             DocketFault::Field(fault) => Place::Offset(fault.offset),
-            DocketFault::ValueCount => Place::Offset(0),
-            DocketFault::ColumnBroken { column } => Place::Column(column),
-            DocketFault::RowBroken { row, .. } => Place::Row(row),
-            DocketFault::BenefitBeyond => Place::Offset(0),
-            DocketFault::MultiplierBeyond { row, .. } => Place::Row(row),
-            DocketFault::SideAbsent { row, .. } => Place::Row(row),
-            DocketFault::RowBeyond { row, .. } => Place::Row(row),
-            DocketFault::ColumnBeyond { column } => Place::Column(column),
+            DocketFault::ValueCount | DocketFault::BenefitBeyond => Place::Offset(0),
+            DocketFault::ColumnBroken { column } | DocketFault::ColumnBeyond { column } => {
+                Place::Column(column)
+            }
+            DocketFault::RowBroken { row, .. }
+            | DocketFault::MultiplierBeyond { row, .. }
+            | DocketFault::SideAbsent { row, .. }
+            | DocketFault::RowBeyond { row, .. } => Place::Row(row),
         }
     }
 
@@ -69,15 +68,11 @@ impl DocketFault {
         ensures { result ≡ (rule self).clause }
     {
         match self {
-            DocketFault::RowBroken { code, .. } => Some(code),
-            DocketFault::MultiplierBeyond { code, .. } => Some(code),
-            DocketFault::SideAbsent { code, .. } => Some(code),
-            DocketFault::RowBeyond { code, .. } => Some(code),
-            DocketFault::Field(_) => None,
-            DocketFault::ValueCount => None,
-            DocketFault::ColumnBroken { .. } => None,
-            DocketFault::BenefitBeyond => None,
-            DocketFault::ColumnBeyond { .. } => None,
+            DocketFault::RowBroken { code, .. }
+            | DocketFault::MultiplierBeyond { code, .. }
+            | DocketFault::SideAbsent { code, .. }
+            | DocketFault::RowBeyond { code, .. } => Some(code),
+            _ => None,
         }
     }
 }

@@ -12,28 +12,22 @@ use Rattle.certificates.specs.Values.{multipliers}
 use Rattle.certificates.specs.Bounds.{at_limit, row_adds, bound, SignFits}
 use Rattle.certificates.specs.Steps.{steps, in_reach, first_beyond}
 use Rattle.certificates.specs.Checks.{unless, right_count, multiplier_reaches, has_side, first_large, first_sideless, judged_set, set_answer, SetPasses}
-use Rattle.certificates.proofs.Numbers.{multipliers_length}
+use Rattle.certificates.specs.Held.{multipliers_held}
+use Rattle.certificates.proofs.Passed.{cond_none}
 use Rattle.reach.specs.Ranged.{reach, after}
 use Rattle.multipliers.specs.Sums.{with_limit, or_fault, then, row_total, rows_total, column_total, columns_total}
 use Rattle.multipliers.specs.Costs.{start}
 use Rattle.multipliers.proofs.Totals.{Answer, done, refused, rows_more, rows_none, rows_end, left, columns_more, columns_none, bound_is}
 use Rattle.multipliers.proofs.Columnwise.{Kept, after_kept}
 
-never : {X : Type 0} → ◌≡◌ {A = ℕ} 0 1 → X
-never e = absurd (omega arith)
-
 -- ---- the checks on the rows
-
-cond_none : (t : Bool) (o : Option DocketFault) (f : DocketFault) → cond t o (Some f) ≡ None → (t ≡ true) × (o ≡ None)
-cond_none true o f e = (refl, e)
-cond_none false o f e = never (cc)
 
 small_of : (i : ℕ) (rs : List FullRow) (ys : List ℤ) → length ys ≡ length rs → first_large i rs ys ≡ None → AllByRecursion (λ (y : ℤ). multiplier_reaches y ≡ true) ys
 small_of i [] [] h e = tt
 small_of i [] (y ∷ ys) h e = absurd (omega arith)
 small_of i (r ∷ rs) [] h e = tt
 small_of i (r ∷ rs) (y ∷ ys) h e =
-    let p = cond_none (multiplier_reaches y) (first_large (suc i) rs ys) (MultiplierBeyond i r.code) e in
+    let p = cond_none (multiplier_reaches y) (MultiplierBeyond i r.code) (first_large (suc i) rs ys) e in
     (p.0, small_of (suc i) rs ys (omega arith) p.1)
 
 of_small : (i : ℕ) (rs : List FullRow) (ys : List ℤ) → AllByRecursion (λ (y : ℤ). multiplier_reaches y ≡ true) ys → first_large i rs ys ≡ None
@@ -43,7 +37,7 @@ of_small i (r ∷ rs) (y ∷ ys) a =
     ap (λ t. cond t (first_large (suc i) rs ys) (Some (MultiplierBeyond i r.code))) a.0 ∙ of_small (suc i) rs ys a.1
 
 some_of : (o : Option ℤ) → is_some o ≡ true → (s : ℤ) × (o ≡ Some s)
-some_of None e = never (cc)
+some_of None e = cc
 some_of (Some s) e = (s, refl)
 
 side_fits : (r : FullRow) (y : ℤ) → has_side y r.lower r.upper ≡ true → SignFits r y
@@ -68,7 +62,7 @@ sided_of i [] [] h e = tt
 sided_of i [] (y ∷ ys) h e = absurd (omega arith)
 sided_of i (r ∷ rs) [] h e = absurd (omega arith)
 sided_of i (r ∷ rs) (y ∷ ys) h e =
-    let p = cond_none (has_side y r.lower r.upper) (first_sideless (suc i) rs ys) (SideAbsent i r.code) e in
+    let p = cond_none (has_side y r.lower r.upper) (SideAbsent i r.code) (first_sideless (suc i) rs ys) e in
     (side_fits r y p.0, sided_of (suc i) rs ys (omega arith) p.1)
 
 of_sided : (i : ℕ) (rs : List FullRow) (ys : List ℤ) → Paired SignFits rs ys → first_sideless i rs ys ≡ None
@@ -81,7 +75,7 @@ of_sided i (r ∷ rs) (y ∷ ys) p =
 
 unless_ok : (o : Option DocketFault) (r : Answer) (v : ℤ) → unless o r ≡ Ok v → (o ≡ None) × (r ≡ Ok v)
 unless_ok None r v e = (refl, e)
-unless_ok (Some f) r v e = never (cc)
+unless_ok (Some f) r v e = cc
 
 pub judged_passes : (b : Lists) (ys : List ℤ) (v : ℤ) → length ys ≡ length b.rows → judged_set b ys ≡ Ok v → SetPasses b ys v
 unfolding judged_set
@@ -102,7 +96,7 @@ passes_judged b ys v p =
 -- bytes of the right count are one multiplier a row
 pub one_a_row : (n : ℕ) (values : List ℕ) → right_count 8 n values ≡ true → length (multipliers values) ≡ n
 one_a_row n values e =
-    let p = and_parts (eqb (length values % 8) 0) (eqb (length values / 8) n) e in multipliers_length values ∙ eqb-true (length values / 8) n p.1
+    let p = and_parts (eqb (length values % 8) 0) (eqb (length values / 8) n) e in multipliers_held.count values ∙ eqb-true (length values / 8) n p.1
 
 module _ (b : Lists) (values : List ℕ) (v : ℤ) where
   pub accepted_passes : set_answer b values ≡ Ok v → (right_count 8 (length b.rows) values ≡ true) × SetPasses b (multipliers values) v
@@ -110,7 +104,7 @@ module _ (b : Lists) (values : List ℕ) (v : ℤ) where
     where
       go : (t : Bool) → right_count 8 (length b.rows) values ≡ t → cond t (judged_set b (multipliers values)) (Err ValueCount) ≡ Ok v → (t ≡ true) × SetPasses b (multipliers values) v
       go true c q = (refl, judged_passes b (multipliers values) v (one_a_row (length b.rows) values c) q)
-      go false c q = never (cc)
+      go false c q = cc
 
   pub passes_accepted : right_count 8 (length b.rows) values ≡ true → SetPasses b (multipliers values) v → set_answer b values ≡ Ok v
   passes_accepted c p = ap (λ t. cond t (judged_set b (multipliers values)) (Err ValueCount)) c ∙ passes_judged b (multipliers values) v p
@@ -131,11 +125,11 @@ answer_passes b values (Err f) e = tt
 -- ---- the figure lies within the reach
 
 then_ok : (r : Answer) (k : ℤ → Answer) (v : ℤ) → then r k ≡ Ok v → (t : ℤ) × (r ≡ Ok t) × (k t ≡ Ok v)
-then_ok (Err f) k v e = never (cc)
+then_ok (Err f) k v e = cc
 then_ok (Ok t) k v e = (t, refl, e)
 
 fault_ok : (o : Option ℤ) (f : DocketFault) (t : ℤ) → or_fault o f ≡ Ok t → o ≡ Some t
-fault_ok None f t e = never (cc)
+fault_ok None f t e = cc
 fault_ok (Some v) f t e = cc
 
 rows_reach : (i : ℕ) (rs : List FullRow) (ys : List ℤ) (t v : ℤ) → in_reach t ≡ true → rows_total i rs ys t ≡ Ok v → in_reach v ≡ true

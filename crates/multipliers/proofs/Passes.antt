@@ -1,77 +1,59 @@
--- One turn of each loop over the table of reduced costs.
-use Rattle.std.proofs.Common.{◌≡◌, ℕ, zero, suc, ◌+◌, ◌<◌, Bool, true, false, cond, ltb, List, [], ◌∷◌, length, get_or, drop, set, ℤ, Some, None, Option, sym, refl, ap, ◌∙◌, add-one, arith}
+-- One turn of each pass over the rows, the columns and the terms: what is left begins with the entry of the turn.
+use Rattle.std.proofs.Common.{◌≡◌, ℕ, zero, suc, ◌+◌, ◌<◌, Bool, true, false, cond, ltb, List, [], ◌∷◌, map, length, get_or, drop, set, ℤ, Some, None, Ok, Err, Option, Result, MatchResult, sym, refl, ap, ◌∙◌, add-one}
 use Rattle.std.specs.List.{slice_get}
+use Rattle.std.specs.Result.{IsErrAnd}
 use Rattle.std.proofs.lemmas.Bool.{and_parts, ltb-true}
 use Rattle.listing_fields.specs.declared.term.Term.{Term}
 use Rattle.listing_fields.specs.Tests.{is_nought, terms_refer}
 use Rattle.books.specs.declared.part.Column.{Column}
-use Rattle.books.specs.Lists.{FullRow, Lists, term_at}
+use Rattle.books.specs.declared.part.Row.{Row}
+use Rattle.books.specs.Lists.{FullRow, Lists, head}
+use Rattle.books.specs.Walks.{heads_of, terms_in, terms_of}
 use Rattle.books.specs.Conditions.{sound}
-use Rattle.books.proofs.Sounds.{row_sound, row_short}
+use Rattle.books.proofs.Sounds.{row_sound}
 use Rattle.certificates.specs.declared.fault.DocketFault.{DocketFault}
-use Rattle.multipliers.specs.Sums.{then, column_total}
-use Rattle.multipliers.specs.Costs.{Table, start, cost_less, started, terms_taken, row_taken, terms_in, terms_of, rows_taken, table_total}
-use Rattle.multipliers.proofs.Totals.{Answer, done, refused}
-use Rattle.multipliers.proofs.Turns.{drop_some, drop_none, nth_below}
+use Rattle.certificates.specs.declared.fault.DocketFault.TheVariants.{MultiplierBeyond, SideAbsent}
+use Rattle.certificates.specs.Checks.{multiplier_reaches, has_side, first_large, first_sideless, passed}
+use Rattle.multipliers.specs.Sums.{first_refused, then, row_total, rows_total, column_total}
+use Rattle.multipliers.specs.Costs.{Table, start, cost_less, started, terms_taken, row_taken, rows_taken, table_total}
+use Rattle.multipliers.proofs.Totals.{Answer, done, refused, rows_more, rows_none, rows_end}
 
 -- ---- the starts of the columns
 
-module _ (cs : List Column) (j : ℕ) (tab all : Table) (inv : started j (drop j cs) tab ≡ all) where
-  pub start_turn : (c : Column) (new : Option ℤ) → slice_get cs j ≡ Some c → new ≡ start c → started (j + 1) (drop (j + 1) cs) (set tab j new) ≡ all
-  start_turn c new at is =
-      ap (λ n. started n (drop n cs) (set tab j new)) (add-one j)
-      ∙ ap (λ o. started (suc j) (drop (suc j) cs) (set tab j o)) is
-      ∙ sym (ap (λ q. started j q tab) (drop_some cs j c at))
+module _ (k n : ℕ) (c : Column) (cs left : List Column) (tab all : Table) (inv : started k left tab ≡ all) (front : left ≡ c ∷ cs) (next : n ≡ k + 1) where
+  pub start_turn : (j : ℕ) (new : Option ℤ) → j ≡ k → new ≡ start c → started n cs (set tab j new) ≡ all
+  start_turn j new at is =
+      ap (λ m. started m cs (set tab j new)) (next ∙ add-one k)
+      ∙ ap (λ i. started (suc k) cs (set tab i new)) at
+      ∙ ap (λ o. started (suc k) cs (set tab k o)) is
+      ∙ sym (ap (λ q. started k q tab) front)
       ∙ inv
 
-  pub start_end : slice_get cs j ≡ None → tab ≡ all
-  start_end e = sym (ap (λ q. started j q tab) (drop_none cs j e)) ∙ inv
+pub start_end : (k : ℕ) (left : List Column) (tab all : Table) → started k left tab ≡ all → left ≡ [] → tab ≡ all
+start_end k left tab all inv e = sym (ap (λ q. started k q tab) e) ∙ inv
 
 -- ---- the terms of a row
 
-module _ (ts : List Term) (k : ℕ) (y : ℤ) (tab all : Table) (inv : terms_taken (drop k ts) y tab ≡ all) where
-  pub term_turn : (t : Term) (new : Table) → slice_get ts k ≡ Some t → new ≡ set tab t.column (cost_less (get_or tab t.column None) y t.coefficient) → terms_taken (drop (k + 1) ts) y new ≡ all
-  term_turn t new at is =
-      ap (λ n. terms_taken (drop n ts) y new) (add-one k)
-      ∙ ap (terms_taken (drop (suc k) ts) y) is
-      ∙ sym (ap (λ q. terms_taken q y tab) (drop_some ts k t at))
-      ∙ inv
+module _ (y : ℤ) (t : Term) (ts left : List Term) (tab all : Table) (inv : terms_taken left y tab ≡ all) (front : left ≡ t ∷ ts) where
+  pub term_turn : (new : Table) → new ≡ set tab t.column (cost_less (get_or tab t.column None) y t.coefficient) → terms_taken ts y new ≡ all
+  term_turn new is = ap (terms_taken ts y) is ∙ sym (ap (λ q. terms_taken q y tab) front) ∙ inv
 
-  pub term_end : slice_get ts k ≡ None → tab ≡ all
-  term_end e = sym (ap (λ q. terms_taken q y tab) (drop_none ts k e)) ∙ inv
+pub term_end : (y : ℤ) (left : List Term) (tab all : Table) → terms_taken left y tab ≡ all → left ≡ [] → tab ≡ all
+term_end y left tab all inv e = sym (ap (λ q. terms_taken q y tab) e) ∙ inv
 
-pub term_is : (b : Lists) (i k : ℕ) → term_at b i k ≡ slice_get (terms_of b i) k
-term_is b i k = go (slice_get b.rows i) refl
+-- the first of the terms that are left names a column
+pub refer_turn : (n : ℕ) (t : Term) (ts left : List Term) → terms_refer n left ≡ true → left ≡ t ∷ ts → (t.column < n) × (terms_refer n ts ≡ true)
+refer_turn n t ts left e front =
+    let p = and_parts (ltb t.column n) (terms_refer n ts) (sym (ap (terms_refer n) front) ∙ e) in (ltb-true t.column n p.0, p.1)
+
+pub terms_known : (b : Lists) → sound b ≡ true → (i : ℕ) → terms_refer (length b.columns) (terms_of b i) ≡ true
+terms_known b kept i = by (slice_get b.rows i) refl
   where
-    go : (o : Option FullRow) → slice_get b.rows i ≡ o → term_at b i k ≡ slice_get (terms_of b i) k
-    go None e = rw e
-    go (Some r) e = rw e
+    by : (o : Option FullRow) → slice_get b.rows i ≡ o → terms_refer (length b.columns) (terms_in o) ≡ true
+    by None e = refl
+    by (Some r) e = (row_sound b kept i r e).refer
 
-refer_at : (n : ℕ) (ts : List Term) (k : ℕ) (t : Term) → terms_refer n ts ≡ true → slice_get ts k ≡ Some t → t.column < n
-refer_at n [] k t e h = cc
-refer_at n (s ∷ ts) zero t e h =
-    let below = ltb-true s.column n (and_parts (ltb s.column n) (terms_refer n ts) e).0 in
-    let q : s ≡ t = cc in
-    omega (arith, ap (λ (u : Term). u.column) q)
-refer_at n (s ∷ ts) (suc k) t e h = refer_at n ts k t (and_parts (ltb s.column n) (terms_refer n ts) e).1 h
-
--- a term that a book answers with names one of its columns, and is one of few
-module _ (b : Lists) (kept : sound b ≡ true) (i k : ℕ) (t : Term) (at : slice_get (terms_of b i) k ≡ Some t) where
-  pub term_column : t.column < length b.columns
-  term_column = go (slice_get b.rows i) refl at
-    where
-      go : (o : Option FullRow) → slice_get b.rows i ≡ o → slice_get (terms_in o) k ≡ Some t → t.column < length b.columns
-      go None e h = cc
-      go (Some r) e h = refer_at (length b.columns) r.terms k t (row_sound b kept i r e).refer h
-
-  pub term_early : k < 500
-  term_early = go (slice_get b.rows i) refl at
-    where
-      go : (o : Option FullRow) → slice_get b.rows i ≡ o → slice_get (terms_in o) k ≡ Some t → k < 500
-      go None e h = cc
-      go (Some r) e h = omega (arith, nth_below r.terms k t h, row_short b kept i r e)
-
--- ---- one row, and all rows
+-- ---- all rows, each times its multiplier
 
 none_taken : (y : ℤ) (tab : Table) → row_taken [] y tab ≡ tab
 none_taken y tab = go (is_nought y)
@@ -80,45 +62,150 @@ none_taken y tab = go (is_nought y)
     go true = refl
     go false = refl
 
-drop_past : {X : Type 0} (xs : List X) (i : ℕ) → slice_get xs i ≡ None → drop (suc i) xs ≡ []
-drop_past [] i h = refl
-drop_past (y ∷ ys) zero h = cc
-drop_past (y ∷ ys) (suc i) h = drop_past ys i h
+rows_turn : (i : ℕ) (rs : List FullRow) (y : ℤ) (ys : List ℤ) (tab : Table) → rows_taken (drop (suc i) rs) ys (row_taken (terms_in (slice_get rs i)) y tab) ≡ rows_taken (drop i rs) (y ∷ ys) tab
+rows_turn zero [] y ys tab = none_taken y tab
+rows_turn (suc i) [] y ys tab = none_taken y tab
+rows_turn zero (r ∷ rs) y ys tab = refl
+rows_turn (suc i) (r ∷ rs) y ys tab = rows_turn i rs y ys tab
 
-module _ (b : Lists) (i : ℕ) (zs : List ℤ) (tab all : Table) (inv : rows_taken (drop i b.rows) zs tab ≡ all) where
-  pub row_turn : (y : ℤ) (ys : List ℤ) (new : Table) → zs ≡ y ∷ ys → new ≡ row_taken (terms_of b i) y tab → rows_taken (drop (i + 1) b.rows) ys new ≡ all
-  row_turn y ys new is e =
-      ap (λ n. rows_taken (drop n b.rows) ys new) (add-one i)
-      ∙ ap (rows_taken (drop (suc i) b.rows) ys) e
-      ∙ go (slice_get b.rows i) refl
-      ∙ sym (ap (λ q. rows_taken (drop i b.rows) q tab) is)
+module _ (b : Lists) (i n : ℕ) (y : ℤ) (ys left : List ℤ) (tab all : Table) (inv : rows_taken (drop i b.rows) left tab ≡ all) (front : left ≡ y ∷ ys) (next : n ≡ i + 1) where
+  pub row_turn : (j : ℕ) (new : Table) → j ≡ i → new ≡ row_taken (terms_of b j) y tab → rows_taken (drop n b.rows) ys new ≡ all
+  row_turn j new at is =
+      ap (λ m. rows_taken (drop m b.rows) ys new) (next ∙ add-one i)
+      ∙ ap (rows_taken (drop (suc i) b.rows) ys) (is ∙ ap (λ m. row_taken (terms_of b m) y tab) at)
+      ∙ rows_turn i b.rows y ys tab
+      ∙ sym (ap (λ q. rows_taken (drop i b.rows) q tab) front)
       ∙ inv
-    where
-      go : (o : Option FullRow) → slice_get b.rows i ≡ o → rows_taken (drop (suc i) b.rows) ys (row_taken (terms_of b i) y tab) ≡ rows_taken (drop i b.rows) (y ∷ ys) tab
-      go None p = rw (p, drop_past b.rows i p, drop_none b.rows i p) (none_taken y tab)
-      go (Some r) p = rw (p, drop_some b.rows i r p)
 
-  pub row_end : zs ≡ [] → tab ≡ all
-  row_end e = go (drop i b.rows) ∙ sym (ap (λ q. rows_taken (drop i b.rows) q tab) e) ∙ inv
-    where
-      go : (rs : List FullRow) → tab ≡ rows_taken rs [] tab
-      go [] = refl
-      go (r ∷ rs) = refl
+pub row_end : (b : Lists) (i : ℕ) (left : List ℤ) (tab all : Table) → rows_taken (drop i b.rows) left tab ≡ all → left ≡ [] → tab ≡ all
+row_end b i left tab all inv e = go (drop i b.rows) ∙ sym (ap (λ q. rows_taken (drop i b.rows) q tab) e) ∙ inv
+  where
+    go : (rs : List FullRow) → tab ≡ rows_taken rs [] tab
+    go [] = refl
+    go (r ∷ rs) = refl
+
+-- ---- a check of each row and its multiplier
+
+module _ (test : Row → ℤ → Bool) (i : ℕ) (r : Row) (y : ℤ) (rs rows : List Row) (ys left : List ℤ) (all : Result (Unit {0}) (ℕ × ℕ)) (inv : first_refused test i rows left ≡ all) (here : rows ≡ r ∷ rs) (front : left ≡ y ∷ ys) where
+  refused_here : cond (test r y) (first_refused test (suc i) rs ys) (Err (i, r.code)) ≡ all
+  refused_here = sym (ap (λ q. first_refused test i q (y ∷ ys)) here) ∙ sym (ap (first_refused test i rows) front) ∙ inv
+
+  pub taken_goes : (n : ℕ) → n ≡ i + 1 → test r y ≡ true → first_refused test n rs ys ≡ all
+  taken_goes n next e =
+      ap (λ m. first_refused test m rs ys) (next ∙ add-one i)
+      ∙ sym (ap (λ t. cond t (first_refused test (suc i) rs ys) (Err (i, r.code))) e)
+      ∙ refused_here
+
+  pub taken_stops : (j : ℕ) → j ≡ i → test r y ≡ false → Err (j, r.code) ≡ all
+  taken_stops j at e =
+      ap (λ m. Err (m, r.code)) at ∙ sym (ap (λ t. cond t (first_refused test (suc i) rs ys) (Err (i, r.code))) e) ∙ refused_here
+
+pub taken_end : (test : Row → ℤ → Bool) (i : ℕ) (rows : List Row) (left : List ℤ) (all : Result (Unit {0}) (ℕ × ℕ)) → first_refused test i rows left ≡ all → (rows ≡ []) → Ok tt ≡ all
+taken_end test i rows left all inv e = sym (ap (λ q. first_refused test i q left) e) ∙ inv
+
+pub taken_over : (test : Row → ℤ → Bool) (i : ℕ) (rows : List Row) (left : List ℤ) (all : Result (Unit {0}) (ℕ × ℕ)) → first_refused test i rows left ≡ all → (left ≡ []) → Ok tt ≡ all
+taken_over test i rows left all inv e = go rows ∙ sym (ap (first_refused test i rows) e) ∙ inv
+  where
+    go : (rs : List Row) → Ok tt ≡ first_refused test i rs []
+    go [] = refl
+    go (r ∷ rs) = refl
+
+-- the fault of the row that is refused
+abbrev as_fault : (ℕ → ℕ → DocketFault) → Result (Unit {0}) (ℕ × ℕ) → Result (Unit {0}) DocketFault
+as_fault f (Ok u) = Ok u
+as_fault f (Err p) = Err (f p.0 p.1)
+
+-- F looks for the first row that the test refuses
+module _
+    (test : Row → ℤ → Bool)
+    (fault : ℕ → ℕ → DocketFault)
+    (F : ℕ → List FullRow → List ℤ → Option DocketFault)
+    (none : (i : ℕ) (ys : List ℤ) → F i [] ys ≡ None)
+    (over : (i : ℕ) (r : FullRow) (rs : List FullRow) → F i (r ∷ rs) [] ≡ None)
+    (one : (i : ℕ) (r : FullRow) (rs : List FullRow) (y : ℤ) (ys : List ℤ) → F i (r ∷ rs) (y ∷ ys) ≡ cond (test (head r) y) (F (suc i) rs ys) (Some (fault i r.code)))
+  where
+    looked : (i : ℕ) (rs : List FullRow) (ys : List ℤ) → as_fault fault (first_refused test i (map head rs) ys) ≡ passed (F i rs ys)
+    looked i [] ys = sym (ap passed (none i ys))
+    looked i (r ∷ rs) [] = sym (ap passed (over i r rs))
+    looked i (r ∷ rs) (y ∷ ys) = by (test (head r) y) (looked (suc i) rs ys) ∙ sym (ap passed (one i r rs y ys))
+      where
+        by : (t : Bool) → as_fault fault (first_refused test (suc i) (map head rs) ys) ≡ passed (F (suc i) rs ys) → as_fault fault (cond t (first_refused test (suc i) (map head rs) ys) (Err (i, r.code))) ≡ passed (cond t (F (suc i) rs ys) (Some (fault i r.code)))
+        by true e = e
+        by false e = refl
+
+    -- what the closure that is asked for the fault tells
+    pub rows_checked : (b : Lists) (ys : List ℤ) (p : Result (Unit {0}) (ℕ × ℕ)) (r : Result (Unit {0}) DocketFault) (Tells : ℕ × ℕ → DocketFault → Type 0) → p ≡ first_refused test 0 (heads_of b) ys
+        → ((e : ℕ × ℕ) (f : DocketFault) → Tells e f → f ≡ fault e.0 e.1) → MatchResult p (λ u. r ≡ Ok u) (λ e. IsErrAnd r (Tells e)) → r ≡ passed (F 0 b.rows ys)
+    rows_checked b ys p r Tells is tells cases = by p r cases ∙ ap (as_fault fault) is ∙ looked 0 b.rows ys
+      where
+        by : (p : Result (Unit {0}) (ℕ × ℕ)) (r : Result (Unit {0}) DocketFault) → MatchResult p (λ u. r ≡ Ok u) (λ e. IsErrAnd r (Tells e)) → r ≡ as_fault fault p
+        by (Ok u) r e = e
+        by (Err e) (Ok u) n = absurd n
+        by (Err e) (Err f) n = ap Err (tells e f n)
+
+pub sizes_checked : (b : Lists) (ys : List ℤ) (p : Result (Unit {0}) (ℕ × ℕ)) (r : Result (Unit {0}) DocketFault) (Tells : ℕ × ℕ → DocketFault → Type 0) → p ≡ first_refused (λ _ y. multiplier_reaches y) 0 (heads_of b) ys
+    → ((e : ℕ × ℕ) (f : DocketFault) → Tells e f → f ≡ MultiplierBeyond e.0 e.1) → MatchResult p (λ u. r ≡ Ok u) (λ e. IsErrAnd r (Tells e)) → r ≡ passed (first_large 0 b.rows ys)
+sizes_checked = rows_checked (λ _ y. multiplier_reaches y) MultiplierBeyond first_large (λ i ys. refl) (λ i r rs. refl) (λ i r rs y ys. refl)
+
+pub sides_checked : (b : Lists) (ys : List ℤ) (p : Result (Unit {0}) (ℕ × ℕ)) (r : Result (Unit {0}) DocketFault) (Tells : ℕ × ℕ → DocketFault → Type 0) → p ≡ first_refused (λ r y. has_side y r.lower r.upper) 0 (heads_of b) ys
+    → ((e : ℕ × ℕ) (f : DocketFault) → Tells e f → f ≡ SideAbsent e.0 e.1) → MatchResult p (λ u. r ≡ Ok u) (λ e. IsErrAnd r (Tells e)) → r ≡ passed (first_sideless 0 b.rows ys)
+sides_checked = rows_checked (λ r y. has_side y r.lower r.upper) SideAbsent first_sideless (λ i ys. refl) (λ i r rs. refl) (λ i r rs y ys. refl)
+
+-- ---- the rows' total
+
+-- the same from the rows without their terms
+abbrev pub heads_total : ℕ → List Row → List ℤ → ℤ → Answer
+heads_total i [] ys t = done t
+heads_total i (r ∷ rs) [] t = done t
+heads_total i (r ∷ rs) (y ∷ ys) t = then (row_total i r y t) (λ s. heads_total (suc i) rs ys s)
+
+then_same : (r : Answer) (f g : ℤ → Answer) → ((s : ℤ) → f s ≡ g s) → then r f ≡ then r g
+then_same (Err e) f g h = refl
+then_same (Ok t) f g h = h t
+
+pub heads_are : (i : ℕ) (rs : List FullRow) (ys : List ℤ) (t : ℤ) → heads_total i (map head rs) ys t ≡ rows_total i rs ys t
+heads_are i [] ys t = sym (rows_none i ys t)
+heads_are i (r ∷ rs) [] t = sym (rows_end i (r ∷ rs) t)
+heads_are i (r ∷ rs) (y ∷ ys) t =
+    then_same (row_total i (head r) y t) _ _ (λ s. heads_are (suc i) rs ys s) ∙ sym (rows_more i r rs y ys t)
+
+module _ (i : ℕ) (r : Row) (y t : ℤ) (rs rows : List Row) (ys left : List ℤ) (all : Answer) (inv : heads_total i rows left t ≡ all) (here : rows ≡ r ∷ rs) (front : left ≡ y ∷ ys) where
+  total_here : all ≡ then (row_total i r y t) (λ s. heads_total (suc i) rs ys s)
+  total_here = sym (sym (ap (λ q. heads_total i q (y ∷ ys) t) here) ∙ sym (ap (λ q. heads_total i rows q t) front) ∙ inv)
+
+  pub total_goes : (n : ℕ) → n ≡ i + 1 → (j : ℕ) (s : ℤ) → j ≡ i → done s ≡ row_total j r y t → heads_total n rs ys s ≡ all
+  total_goes n next j s at ok =
+      ap (λ m. heads_total m rs ys s) (next ∙ add-one i)
+      ∙ sym (total_here ∙ ap (λ q. then q (λ s. heads_total (suc i) rs ys s)) (sym (ok ∙ ap (λ m. row_total m r y t) at)))
+
+  pub total_stops : (j : ℕ) (f : DocketFault) → j ≡ i → refused f ≡ row_total j r y t → refused f ≡ all
+  total_stops j f at err =
+      sym (total_here ∙ ap (λ q. then q (λ s. heads_total (suc i) rs ys s)) (sym (err ∙ ap (λ m. row_total m r y t) at)))
+
+pub total_end : (i : ℕ) (t : ℤ) (rows : List Row) (left : List ℤ) (all : Answer) → heads_total i rows left t ≡ all → rows ≡ [] → done t ≡ all
+total_end i t rows left all inv e = sym (ap (λ q. heads_total i q left t) e) ∙ inv
+
+pub total_over : (i : ℕ) (t : ℤ) (rows : List Row) (left : List ℤ) (all : Answer) → heads_total i rows left t ≡ all → left ≡ [] → done t ≡ all
+total_over i t rows left all inv e = go rows ∙ sym (ap (λ q. heads_total i rows q t) e) ∙ inv
+  where
+    go : (rs : List Row) → done t ≡ heads_total i rs [] t
+    go [] = refl
+    go (r ∷ rs) = refl
 
 -- ---- the columns' total
 
-module _ (cs : List Column) (j : ℕ) (tab : Table) (t : ℤ) (all : Answer) (inv : table_total j (drop j cs) tab t ≡ all) where
-  pub column_end : slice_get cs j ≡ None → done t ≡ all
-  column_end e = sym (ap (λ q. table_total j q tab t) (drop_none cs j e)) ∙ inv
+module _ (j : ℕ) (c : Column) (cs left : List Column) (tab : Table) (t : ℤ) (all : Answer) (inv : table_total j left tab t ≡ all) (front : left ≡ c ∷ cs) where
+  turn : all ≡ then (column_total j c (get_or tab j None) t) (λ s. table_total (suc j) cs tab s)
+  turn = sym inv ∙ ap (λ q. table_total j q tab t) front
 
-  module _ (c : Column) (at : slice_get cs j ≡ Some c) where
-    turn : all ≡ then (column_total j c (get_or tab j None) t) (λ s. table_total (suc j) (drop (suc j) cs) tab s)
-    turn = sym inv ∙ ap (λ q. table_total j q tab t) (drop_some cs j c at)
+  pub column_goes : (n : ℕ) → n ≡ j + 1 → (k : ℕ) (s : ℤ) → k ≡ j → done s ≡ column_total k c (get_or tab k None) t → table_total n cs tab s ≡ all
+  column_goes n next k s at ok =
+      ap (λ m. table_total m cs tab s) (next ∙ add-one j)
+      ∙ sym (turn ∙ ap (λ q. then q (λ s. table_total (suc j) cs tab s)) (sym (ok ∙ ap (λ m. column_total m c (get_or tab m None) t) at)))
 
-    pub column_goes : (s : ℤ) → done s ≡ column_total j c (get_or tab j None) t → table_total (j + 1) (drop (j + 1) cs) tab s ≡ all
-    column_goes s ok =
-        ap (λ n. table_total n (drop n cs) tab s) (add-one j)
-        ∙ sym (turn ∙ ap (λ q. then q (λ s. table_total (suc j) (drop (suc j) cs) tab s)) (sym ok))
+  pub column_stops : (k : ℕ) (f : DocketFault) → k ≡ j → refused f ≡ column_total k c (get_or tab k None) t → refused f ≡ all
+  column_stops k f at err =
+      sym (turn ∙ ap (λ q. then q (λ s. table_total (suc j) cs tab s)) (sym (err ∙ ap (λ m. column_total m c (get_or tab m None) t) at)))
 
-    pub column_stops : (f : DocketFault) → refused f ≡ column_total j c (get_or tab j None) t → refused f ≡ all
-    column_stops f err = sym (turn ∙ ap (λ q. then q (λ s. table_total (suc j) (drop (suc j) cs) tab s)) (sym err))
+pub column_end : (j : ℕ) (left : List Column) (tab : Table) (t : ℤ) (all : Answer) → table_total j left tab t ≡ all → left ≡ [] → done t ≡ all
+column_end j left tab t all inv e = sym (ap (λ q. table_total j q tab t) e) ∙ inv

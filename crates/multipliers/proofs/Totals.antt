@@ -8,9 +8,10 @@ use Rattle.certificates.specs.declared.fault.DocketFault.{DocketFault}
 use Rattle.certificates.specs.declared.fault.DocketFault.TheVariants.{RowBeyond, ColumnBeyond}
 use Rattle.certificates.specs.Bounds.{K, row_adds, rows_add, coefficient_of, reduced_cost, column_adds, columns_add, bound}
 use Rattle.certificates.specs.Steps.{Step, row_steps, cost_steps, column_steps, steps, in_reach, first_beyond}
-use Rattle.certificates.specs.Checks.{unless, first_large, first_sideless, judged_set}
+use Rattle.certificates.specs.Checks.{unless, first_large, first_sideless, judged_set, passed}
+use Rattle.certificates.proofs.Passed.{fault_is, none_is}
 use Rattle.reach.specs.Ranged.{reach, after, less}
-use Rattle.multipliers.specs.Sums.{with_limit, or_fault, or_else, then, row_total, rows_total, column_total, columns_total}
+use Rattle.multipliers.specs.Sums.{with_limit, or_fault, then, row_total, rows_total, column_total, columns_total}
 use Rattle.multipliers.specs.Costs.{start, cost_less}
 
 abbrev pub Answer : Type 0
@@ -134,32 +135,35 @@ bound_is b ys =
     ∙ ap (λ (t : ℤ). unless o (columns_total rs ys 0 cs t)) z
     ∙ sym (unless_then o (pos 0 +ℤ all) (λ t. columns_total rs ys 0 cs t))
 
--- the answer to a set that the checks on its rows refuse
-unless_first : (o q : Option DocketFault) (r : Answer) → unless (or_else o q) r ≡ unless o (unless q r)
-unless_first None q r = refl
-unless_first (Some f) q r = refl
-
+-- the answer to a set, by the first check that fails
 module _ (b : Lists) (ys : List ℤ) where
-  abbrev checked : Option DocketFault
-  checked = or_else (first_large 0 b.rows ys) (first_sideless 0 b.rows ys)
-
-  judged_first : (o : Option DocketFault) → o ≡ checked → unless o (then (rows_total 0 b.rows ys (pos 0)) (λ t. columns_total b.rows ys 0 b.columns t)) ≡ judged_set b ys
+  judged_first : judged_set b ys ≡ unless (first_large 0 b.rows ys) (unless (first_sideless 0 b.rows ys) (then (rows_total 0 b.rows ys (pos 0)) (λ t. columns_total b.rows ys 0 b.columns t)))
   unfolding judged_set
-  judged_first o is =
-      let rest = unless (first_beyond (steps b ys)) (done (bound b ys)) in
-      ap (λ q. unless q (then (rows_total 0 b.rows ys (pos 0)) (λ t. columns_total b.rows ys 0 b.columns t))) is
-      ∙ sym (ap (unless checked) (bound_is b ys))
-      ∙ unless_first (first_large 0 b.rows ys) (first_sideless 0 b.rows ys) rest
+  judged_first = ap (λ r. unless (first_large 0 b.rows ys) (unless (first_sideless 0 b.rows ys) r)) (bound_is b ys)
 
-  pub judged_refused : (f : DocketFault) → Some f ≡ or_else (first_large 0 b.rows ys) (first_sideless 0 b.rows ys) → refused f ≡ judged_set b ys
-  judged_refused f is = judged_first (Some f) is
+  abbrev totals : Answer
+  totals = then (rows_total 0 b.rows ys (pos 0)) (λ t. columns_total b.rows ys 0 b.columns t)
 
-  module _ (clear : None ≡ or_else (first_large 0 b.rows ys) (first_sideless 0 b.rows ys)) where
-    -- of one whose rows add up beyond the reach
-    pub judged_beyond : (f : DocketFault) → refused f ≡ rows_total 0 b.rows ys (pos 0) → refused f ≡ judged_set b ys
-    judged_beyond f is = ap (λ q. then q (λ t. columns_total b.rows ys 0 b.columns t)) is ∙ judged_first None clear
+  pub sizes_refuse : (f : DocketFault) → Err f ≡ passed (first_large 0 b.rows ys) → refused f ≡ judged_set b ys
+  sizes_refuse f e =
+      sym (judged_first ∙ ap (λ o. unless o (unless (first_sideless 0 b.rows ys) totals)) (fault_is _ f e))
 
-    -- of one whose rows add up to t
-    pub judged_is : (t : ℤ) (r : Answer) → done t ≡ rows_total 0 b.rows ys (pos 0) → r ≡ columns_total b.rows ys 0 b.columns t → r ≡ judged_set b ys
-    judged_is t r rows is =
-        is ∙ ap (λ q. then q (λ s. columns_total b.rows ys 0 b.columns s)) rows ∙ judged_first None clear
+  module _ (u : Unit {0}) (sizes : Ok u ≡ passed (first_large 0 b.rows ys)) where
+    sized : judged_set b ys ≡ unless (first_sideless 0 b.rows ys) totals
+    sized = judged_first ∙ ap (λ o. unless o (unless (first_sideless 0 b.rows ys) totals)) (none_is _ u sizes)
+
+    pub sides_refuse : (f : DocketFault) → Err f ≡ passed (first_sideless 0 b.rows ys) → refused f ≡ judged_set b ys
+    sides_refuse f e = sym (sized ∙ ap (λ o. unless o totals) (fault_is _ f e))
+
+    module _ (w : Unit {0}) (sides : Ok w ≡ passed (first_sideless 0 b.rows ys)) where
+      sided : judged_set b ys ≡ totals
+      sided = sized ∙ ap (λ o. unless o totals) (none_is _ w sides)
+
+      -- of one whose rows add up beyond the reach
+      pub judged_beyond : (f : DocketFault) → refused f ≡ rows_total 0 b.rows ys (pos 0) → refused f ≡ judged_set b ys
+      judged_beyond f is = ap (λ q. then q (λ t. columns_total b.rows ys 0 b.columns t)) is ∙ sym sided
+
+      -- of one whose rows add up to t
+      pub judged_is : (t : ℤ) (r : Answer) → done t ≡ rows_total 0 b.rows ys (pos 0) → r ≡ columns_total b.rows ys 0 b.columns t → r ≡ judged_set b ys
+      judged_is t r rows is =
+          is ∙ ap (λ q. then q (λ s. columns_total b.rows ys 0 b.columns s)) rows ∙ sym sided

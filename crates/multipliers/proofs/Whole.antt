@@ -1,7 +1,9 @@
 -- The columns' total by the table is that of the steps, and the cleared table is the first.
-use Rattle.std.proofs.Common.{◌≡◌, ℕ, zero, suc, ◌+◌, ◌<◌, ◌≤◌, Bool, true, false, ltb, List, [], ◌∷◌, length, get_or, ℤ, ◌*ℤ◌, Some, None, Option, sym, refl, ap, ◌∙◌, subst, arith}
+use Rattle.std.proofs.Common.{◌≡◌, ℕ, zero, suc, ◌+◌, ◌<◌, ◌≤◌, Bool, true, false, ltb, List, [], ◌∷◌, ◌++◌, replicate, length, get_or, drop, ℤ, ◌*ℤ◌, Some, None, Option, sym, refl, ap, ◌∙◌, subst, arith}
 use Rattle.std.specs.List.{slice_get}
 use Rattle.std.proofs.lemmas.List.{get_or_default, ext_get_or}
+use Rattle.std.proofs.lemmas.Grind.{common_steps}
+use Rattle.std.proofs.lemmas.Option.{slice_get_within}
 use Rattle.std.proofs.lemmas.Bool.{and_parts, ltb-true, ltb-false}
 use Rattle.books.specs.declared.part.Column.{Column}
 use Rattle.books.specs.Lists.{Lists}
@@ -11,7 +13,6 @@ use Rattle.certificates.specs.Bounds.{K}
 use Rattle.multipliers.specs.Sums.{columns_total}
 use Rattle.multipliers.specs.Costs.{Table, nought, is_clear, start, started, rows_taken, table_total}
 use Rattle.multipliers.proofs.Totals.{left}
-use Rattle.multipliers.proofs.Turns.{nth_below}
 use Rattle.multipliers.proofs.Columnwise.{Kept, reach_kept, nought_is, rows_long, rows_past, rows_at, started_long, started_past, started_at, table_is}
 
 clear_is : (o : Option ℤ) → is_clear o ≡ true → o ≡ nought
@@ -22,6 +23,16 @@ all_clear : (tab : Table) → every is_clear tab ≡ true → (j : ℕ) → get_
 all_clear [] e j = refl
 all_clear (o ∷ tab) e zero = clear_is o (and_parts (is_clear o) (every is_clear tab) e).0
 all_clear (o ∷ tab) e (suc j) = all_clear tab (and_parts (is_clear o) (every is_clear tab) e).1 j
+
+-- noughts in front of what stood
+front_long : (n : ℕ) (xs : Table) → n ≤ length xs → length (replicate n nought ++ drop n xs) ≡ length xs
+front_long n xs h = grind (arith, common_steps)
+
+front_below : (n j : ℕ) (xs : Table) → j < n → get_or (replicate n nought ++ xs) j nought ≡ nought
+front_below n j xs h = grind (arith, common_steps)
+
+front_past : (n j : ℕ) (xs : Table) → n ≤ j → get_or (replicate n nought ++ drop n xs) j nought ≡ get_or xs j nought
+front_past n j xs h = grind (arith, common_steps)
 
 module _ (b : Lists) (kept : sound b ≡ true) (ys : List ℤ) (tab : Table) (long : length b.columns ≤ length tab) where
   -- the table when every row is subtracted
@@ -35,7 +46,7 @@ module _ (b : Lists) (kept : sound b ≡ true) (ys : List ℤ) (tab : Table) (lo
   entry k c at =
       let n = length b.columns in
       let z : 0 + k ≡ k = omega arith in
-      let below = nth_below b.columns k c at in
+      let below = slice_get_within b.columns k c at in
       let l = full_long in
       let m = started_long 0 b.columns tab in
       let first : get_or (started 0 b.columns tab) k nought ≡ start c = subst (λ q. get_or (started 0 b.columns tab) q nought ≡ start c) z (started_at 0 k b.columns tab c at (omega arith)) in
@@ -46,14 +57,19 @@ module _ (b : Lists) (kept : sound b ≡ true) (ys : List ℤ) (tab : Table) (lo
   pub total_is : (t : ℤ) → table_total 0 b.columns full t ≡ columns_total b.rows ys 0 b.columns t
   total_is = table_is b.rows ys full 0 b.columns (λ k c at. let z : k ≡ 0 + k = omega arith in subst (λ q. get_or full q None ≡ left q (start c) b.rows ys) z (entry k c at))
 
-  pub restored : (after : Table) → every is_clear tab ≡ true → length after ≡ length tab
-      → ((j : ℕ) → j < length b.columns → get_or after j nought ≡ nought)
-      → ((j : ℕ) → length b.columns ≤ j → get_or after j nought ≡ get_or full j nought)
-      → after ≡ tab
-  restored after clear same below past = ext_get_or nought after tab same (λ j h. by j (ltb j (length b.columns)) refl)
+  pub restored : every is_clear tab ≡ true → (n : ℕ) → n ≡ length b.columns → (after : Table) → after ≡ replicate n nought ++ drop n full → after ≡ tab
+  restored clear n count after is =
+      let l = full_long in
+      ext_get_or nought after tab
+      (ap length is ∙ front_long n full (omega arith) ∙ full_long)
+      (λ j h. by j (ltb j n) refl)
     where
-      by : (j : ℕ) (t : Bool) → ltb j (length b.columns) ≡ t → get_or after j nought ≡ get_or tab j nought
-      by j true e = below j (ltb-true _ _ e) ∙ sym (all_clear tab clear j)
+      by : (j : ℕ) (t : Bool) → ltb j n ≡ t → get_or after j nought ≡ get_or tab j nought
+      by j true e =
+          ap (λ q. get_or q j nought) is ∙ front_below n j (drop n full) (ltb-true _ _ e) ∙ sym (all_clear tab clear j)
       by j false e =
-          let h : length b.columns ≤ j = ltb-false _ _ e in
-          past j h ∙ rows_past (length b.columns) j b.rows ys (started 0 b.columns tab) (sound_parts b kept).rows h ∙ started_past 0 j b.columns tab (omega arith)
+          let h : length b.columns ≤ j = let k = ltb-false _ _ e in omega arith in
+          ap (λ q. get_or q j nought) is
+          ∙ front_past n j full (ltb-false _ _ e)
+          ∙ rows_past (length b.columns) j b.rows ys (started 0 b.columns tab) (sound_parts b kept).rows h
+          ∙ started_past 0 j b.columns tab (omega arith)

@@ -1,10 +1,9 @@
 -- The working table: for each column its running reduced cost, absent if it left the reach.
 use Rattle.std.specs.Prelude.{ℕ, suc, Bool, false, cond, List, [], ◌∷◌, ℤ, pos, ◌*ℤ◌, Some, None, Ok, Option, Result, slice_index_or, slice_set}
-use Rattle.std.specs.List.{slice_get}
 use Rattle.listing_fields.specs.declared.term.Term.{Term}
 use Rattle.listing_fields.specs.Tests.{is_nought}
 use Rattle.books.specs.declared.part.Column.{Column}
-use Rattle.books.specs.Lists.{FullRow, Lists}
+use Rattle.books.specs.Lists.{FullRow}
 use Rattle.certificates.specs.declared.fault.DocketFault.{DocketFault}
 use Rattle.certificates.specs.Bounds.{K}
 use Rattle.reach.specs.Ranged.{reach, after, less}
@@ -44,15 +43,6 @@ terms_taken (t ∷ ts) y tab = terms_taken ts y (slice_set tab t.column (cost_le
 -- the same, where a row of multiplier nought takes nothing
 abbrev pub row_taken : List Term → ℤ → Table → Table
 row_taken ts y tab = cond (is_nought y) tab (terms_taken ts y tab)
-
--- the terms of a row, if there is one
-abbrev pub terms_in : Option FullRow → List Term
-terms_in None = []
-terms_in (Some r) = r.terms
-
--- the terms of row i; past the end there are none
-abbrev pub terms_of : Lists → ℕ → List Term
-terms_of b i = terms_in (slice_get b.rows i)
 
 -- the table less every row
 abbrev pub rows_taken : List FullRow → List ℤ → Table → Table

@@ -1,5 +1,5 @@
 -- The totals of a bound, each with the fault that it brings where a product or a running value lies beyond ±2^60.
-use Rattle.std.specs.Prelude.{ℕ, List, ℤ, pos, negsuc, ◌+ℤ◌, Some, None, Ok, Err, Option, Result}
+use Rattle.std.specs.Prelude.{ℕ, suc, Bool, cond, List, [], ◌∷◌, ℤ, pos, negsuc, ◌+ℤ◌, Some, None, Ok, Err, Option, Result}
 use Rattle.std.specs.Option.{unwrap_or}
 use Rattle.books.specs.declared.part.Column.{Column}
 use Rattle.books.specs.declared.part.Row.{Row}
@@ -25,10 +25,11 @@ abbrev pub or_fault : Option ℤ → DocketFault → Result ℤ DocketFault
 or_fault None f = Err f
 or_fault (Some t) f = Ok t
 
--- the first of two faults that there is
-abbrev pub or_else : Option DocketFault → Option DocketFault → Option DocketFault
-or_else None q = q
-or_else (Some f) q = Some f
+-- the first row, of which the first has the number i, that a test of the row and its multiplier refuses: its number and its code
+abbrev pub first_refused : (Row → ℤ → Bool) → ℕ → List Row → List ℤ → Result (Unit {0}) (ℕ × ℕ)
+first_refused test i [] ys = Ok tt
+first_refused test i (r ∷ rs) [] = Ok tt
+first_refused test i (r ∷ rs) (y ∷ ys) = cond (test r y) (first_refused test (suc i) rs ys) (Err (i, r.code))
 
 -- what follows a value, or the fault in its place
 abbrev pub then : Result ℤ DocketFault → (ℤ → Result ℤ DocketFault) → Result ℤ DocketFault

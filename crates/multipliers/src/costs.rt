@@ -1,96 +1,117 @@
-//! The passes over the table of reduced costs.
-ghost use Rattle.std.specs.Prelude.{◌≡◌, ℕ, ◌<◌, ◌≤◌, length, None, slice_index_or, slice_set};
+//! The reduced costs of a book's columns, and the passes over them.
+ghost use Rattle.std.specs.Prelude.{◌≡◌, ◌<◌, ◌≤◌, ◌++◌, length, drop, IfOk, None, replicate, slice_index_or, slice_set};
+ghost use Rattle.books.specs.Walks.{terms_of};
 ghost use Rattle.certificates.specs.Values.{multipliers};
-ghost use Rattle.multipliers.specs.Costs.{nought, cost_less, started, terms_taken, row_taken, terms_of, rows_taken, table_total};
+ghost use Rattle.multipliers.specs.Costs.{nought, cost_less, started, terms_taken, row_taken, rows_taken, table_total};
 
-use crate::step::{add_column, is_nought, start_cost, subtract_term};
+use crate::step::{add_column, start_cost, subtract_term};
 use books::book::Book;
+use books::walk::{Columns, Terms};
 use certificates::fault::DocketFault;
-use certificates::value::split_multiplier;
+use certificates::value::Multipliers;
 use listing_fields::term::Term;
+use std::alloc::{AllocError, Global};
+use std::marker::Model;
 
-/// Writes what each column starts from.
-pub(crate) fn start_costs<B: Book>(book: &B, costs: &mut [Option<i64>])
-    requires { length (B.Book.meaning book.now).columns ≤ length costs.old }
-    ensures { costs.new ≡ started 0 (B.Book.meaning book.now).columns costs.old }
-{
-    let mut j: usize = 0;
-    while let Some(column) = book.column(j) {
-        costs[j] = start_cost(column);
-        j += 1;
-    }
+/// How many columns a book may have.
+const MOST_COLUMNS: usize = 4000;
+
+/// A reduced cost for each column that a book may have; one that left the reach is absent.
+#[derive(Drop)]
+pub(crate) struct Costs {
+    entries: Vec<Option<i64>>,
 }
 
-/// Subtracts a term times the multiplier from its column.
-fn subtract_at(costs: &mut [Option<i64>], term: Term, y: i64)
-    requires { term.column < length costs.old }
-    ensures { costs.new ≡ slice_set costs.old term.column (cost_less (slice_index_or costs.old term.column None) y term.coefficient) }
-{
-    let j = term.column as usize;
-    costs[j] = subtract_term(costs[j], y, term.coefficient);
-}
+impl Model for Costs {
+    ghost use Rattle.std.specs.Prelude.{◌≡◌, List, ℤ, Option, vec_len};
 
-/// Subtracts a row's terms, each times the multiplier, from their columns.
-fn subtract_terms<B: Book>(book: &B, i: usize, y: i64, costs: &mut [Option<i64>])
-    requires { length (B.Book.meaning book.now).columns ≤ length costs.old }
-    ensures { costs.new ≡ terms_taken (terms_of (B.Book.meaning book.now) i) y costs.old }
-{
-    let mut k: usize = 0;
-    while let Some(term) = book.term(i, k) {
-        subtract_at(costs, term, y);
-        k += 1;
-    }
-}
+    ghost Value = { List (Option ℤ) };
 
-/// The same, where a row of multiplier nought is skipped.
-fn subtract_row<B: Book>(book: &B, i: usize, y: i64, costs: &mut [Option<i64>])
-    requires { length (B.Book.meaning book.now).columns ≤ length costs.old }
-    ensures { costs.new ≡ row_taken (terms_of (B.Book.meaning book.now) i) y costs.old }
-{
-    if !is_nought(y) {
-        subtract_terms(book, i, y, costs);
-    }
-}
+    ghost view = { λ c. c.entries.items };
 
-/// Subtracts every row, each times its multiplier.
-pub(crate) fn subtract_rows<B: Book>(book: &B, values: &[u8], costs: &mut [Option<i64>])
-    requires { length (B.Book.meaning book.now).columns ≤ length costs.old }
-    ensures { costs.new ≡ rows_taken (B.Book.meaning book.now).rows (multipliers values.now) costs.old }
-{
-    let mut rest = values;
-    let mut i: usize = 0;
-    while let Some((y, after)) = split_multiplier(rest) {
-        subtract_row(book, i, y, costs);
-        rest = after;
-        i += 1;
-    }
-}
-
-/// The total and what the columns add by their reduced costs.
-pub(crate) fn add_columns<B: Book>(
-    book: &B,
-    costs: &[Option<i64>],
-    total: i64,
-) -> Result<i64, DocketFault>
-    requires { length (B.Book.meaning book.now).columns ≤ length costs.now }
-    ensures { result ≡ table_total 0 (B.Book.meaning book.now).columns costs.now total }
-{
-    let mut sum = total;
-    let mut j: usize = 0;
-    while let Some(column) = book.column(j) {
-        sum = add_column(j, column, costs[j], sum)?;
-        j += 1;
-    }
-    Ok(sum)
+    ghost invariant = { λ c. vec_len c.entries ≡ 4000 };
 }
 
 /// Writes nought into the first entries.
-pub(crate) fn clear_costs(count: usize, costs: &mut [Option<i64>])
-    requires { count ≤ length costs.old }
-    ensures below { (j : ℕ) → j < count → slice_index_or costs.new j nought ≡ nought }
-    ensures past { (j : ℕ) → count ≤ j → slice_index_or costs.new j nought ≡ slice_index_or costs.old j nought }
+fn clear_front(entries: &mut [Option<i64>], count: usize)
+    requires { count ≤ length entries.old }
+    ensures { entries.new ≡ replicate count nought ++ drop count entries.old }
 {
-    for k in 0..count {
-        costs[k] = Some(0);
+    entries[..count].fill(Some(0));
+}
+
+impl Costs {
+    /// Noughts, if there is memory for them.
+    pub(crate) fn new(heap: Global) -> Result<Costs, AllocError>
+        ensures { IfOk result (λ c. c ≡ replicate 4000 nought) }
+    {
+        Ok(Costs {
+            entries: vec![in heap; Some(0); MOST_COLUMNS]?,
+        })
+    }
+
+    /// Writes what each column starts from.
+    pub(crate) fn start<B: Book>(&mut self, book: &B)
+        ensures starts { self.new ≡ started 0 (B.Book.meaning book.now).columns self.old }
+        ensures long { length self.old ≡ 4000 }
+    {
+        for (j, column) in Columns::of(book).enumerate() {
+            self.entries[j] = start_cost(column);
+        }
+    }
+
+    /// Subtracts a term times the multiplier from its column.
+    fn subtract_at(&mut self, term: Term, y: i64)
+        requires { term.column < 4000 }
+        ensures { self.new ≡ slice_set self.old term.column (cost_less (slice_index_or self.old term.column None) y term.coefficient) }
+    {
+        let j = usize::from(term.column);
+        self.entries[j] = subtract_term(self.entries[j], y, term.coefficient);
+    }
+
+    /// Subtracts a row's terms, each times the multiplier, from their columns.
+    fn subtract_terms<B: Book>(&mut self, book: &B, i: usize, y: i64)
+        ensures { self.new ≡ terms_taken (terms_of (B.Book.meaning book.now) i) y self.old }
+    {
+        for term in Terms::of(book, i) {
+            self.subtract_at(term, y);
+        }
+    }
+
+    /// The same, where a row of multiplier nought is skipped.
+    fn subtract_row<B: Book>(&mut self, book: &B, i: usize, y: i64)
+        ensures { self.new ≡ row_taken (terms_of (B.Book.meaning book.now) i) y self.old }
+    {
+        if y != 0 {
+            self.subtract_terms(book, i, y);
+        }
+    }
+
+    /// Subtracts every row, each times its multiplier.
+    pub(crate) fn subtract_rows<B: Book>(&mut self, book: &B, values: Multipliers<'_>)
+        ensures { self.new ≡ rows_taken (B.Book.meaning book.now).rows (multipliers values.entry.bytes.now) self.old }
+    {
+        for (i, y) in values.iter().enumerate() {
+            self.subtract_row(book, i, y.into());
+        }
+    }
+
+    /// The total and what the columns add by their reduced costs.
+    pub(crate) fn add_columns<B: Book>(&self, book: &B, total: i64) -> Result<i64, DocketFault>
+        ensures { result ≡ table_total 0 (B.Book.meaning book.now).columns self.now total }
+    {
+        let mut sum = total;
+        for (j, column) in Columns::of(book).enumerate() {
+            sum = add_column(j, column, self.entries[j], sum)?;
+        }
+        Ok(sum)
+    }
+
+    /// Writes nought into the first entries.
+    pub(crate) fn clear(&mut self, count: usize)
+        requires { count ≤ 4000 }
+        ensures { self.new ≡ replicate count nought ++ drop count self.old }
+    {
+        clear_front(&mut self.entries, count);
     }
 }

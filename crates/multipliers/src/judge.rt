@@ -6,35 +6,28 @@ ghost use Rattle.certificates.specs.Checks.{right_count, judged_set, set_answer,
 ghost use Rattle.multipliers.specs.Sums.{columns_total};
 ghost use Rattle.multipliers.specs.Costs.{is_clear};
 
-use crate::costs::{add_columns, clear_costs, start_costs, subtract_rows};
-use crate::rows::{add_rows, rows_fault};
+use crate::costs::Costs;
+use crate::rows::{add_rows, check_sides, check_sizes};
 use crate::working_table::WorkingTable;
 use books::book::Book;
 use certificates::fault::DocketFault;
+use certificates::value::{Multiplier, Multipliers, are_counted};
 
-/// Whether the bytes divide into multipliers, and are so many.
-fn is_right_count(rows: usize, values: &[u8]) -> bool
-    ensures { result ≡ right_count 8 rows values.now }
-{
-    values.len() % 8 == 0 && values.len() / 8 == rows
-}
-
-/// The total and what the columns add; the table is cleared again.
+/// The total and what the columns add; the costs are cleared again.
 fn add_reduced_costs<B: Book>(
+    costs: &mut Costs,
     book: &B,
-    values: &[u8],
+    values: Multipliers<'_>,
     total: i64,
-    costs: &mut [Option<i64>],
 ) -> Result<i64, DocketFault>
-    requires costs_len { length costs.old ≡ 4000 }
-    requires costs_value { every is_clear costs.old ≡ true }
-    ensures sum { result ≡ columns_total (B.Book.meaning book.now).rows (multipliers values.now) 0 (B.Book.meaning book.now).columns total }
+    requires { every is_clear costs.old ≡ true }
+    ensures sum { result ≡ columns_total (B.Book.meaning book.now).rows (multipliers values.entry.bytes.now) 0 (B.Book.meaning book.now).columns total }
     ensures same { costs.new ≡ costs.old }
 {
-    start_costs(book, costs);
-    subtract_rows(book, values, costs);
-    let sum = add_columns(book, costs, total);
-    clear_costs(book.column_count(), costs);
+    costs.start(book);
+    costs.subtract_rows(book, values);
+    let sum = costs.add_columns(book, total);
+    costs.clear(book.column_count());
     sum
 }
 
@@ -42,16 +35,15 @@ fn add_reduced_costs<B: Book>(
 fn judge_multipliers<B: Book>(
     book: &B,
     table: &mut WorkingTable,
-    values: &[u8],
+    values: Multipliers<'_>,
 ) -> Result<i64, DocketFault>
-    ensures answer { result ≡ judged_set (B.Book.meaning book.now) (multipliers values.now) }
+    ensures answer { result ≡ judged_set (B.Book.meaning book.now) (multipliers values.entry.bytes.now) }
     ensures same { table.new ≡ table.old }
 {
-    if let Some(fault) = rows_fault(book, values) {
-        return Err(fault);
-    }
+    check_sizes(book, values)?;
+    check_sides(book, values)?;
     let total = add_rows(book, values)?;
-    add_reduced_costs(book, values, total, &mut table.costs)
+    add_reduced_costs(&mut table.costs, book, values, total)
 }
 
 /// The bound that a set gives, in fine units, or why it is refused. The table is as it was.
@@ -71,8 +63,8 @@ pub fn judge_set<B: Book>(
         → SetPasses (B.Book.meaning book.now) (multipliers values.now) v
         → result ≡ Ok v }
 {
-    if !is_right_count(book.row_count(), values) {
+    if !are_counted::<Multiplier>(values, book.row_count()) {
         return Err(DocketFault::ValueCount);
     }
-    judge_multipliers(book, table, values)
+    judge_multipliers(book, table, Multipliers::new(values))
 }

@@ -1,102 +1,66 @@
 //! The passes over the multipliers that look at the rows alone.
-ghost use Rattle.std.specs.Prelude.{◌≡◌, pos, if◌then◌else◌, Some, None};
+ghost use Rattle.std.specs.Prelude.{◌≡◌, ℤ, Bool, pos};
+ghost use Rattle.std.specs.Int.RustNames.{FitsSigned};
+ghost use Rattle.std.specs.Int.{w64};
+ghost use Rattle.books.specs.Walks.{heads_of};
+ghost use Rattle.books.specs.declared.part.Row.{Row as TheRow};
 ghost use Rattle.certificates.specs.Values.{multipliers};
-ghost use Rattle.certificates.specs.Checks.{multiplier_reaches, has_side, first_large, first_sideless};
-ghost use Rattle.certificates.specs.declared.fault.DocketFault.TheVariants.{MultiplierBeyond, SideAbsent};
-ghost use Rattle.multipliers.specs.Sums.{or_else, rows_total};
+ghost use Rattle.certificates.specs.Checks.{first_large, first_sideless, passed};
+ghost use Rattle.multipliers.specs.Sums.{first_refused, rows_total};
 
 use crate::step::{add_row, has_side, multiplier_reaches};
 use books::book::Book;
 use books::part::Row;
+use books::walk::Rows;
 use certificates::fault::DocketFault;
-use certificates::value::split_multiplier;
+use certificates::value::Multipliers;
 
-/// The fault of a row whose multiplier lies beyond ±10^12.
-fn size_fault(i: usize, row: Row, y: i64) -> Option<DocketFault>
-    ensures { result ≡ (if multiplier_reaches y then None else Some (MultiplierBeyond i row.code)) }
+/// Every row and its multiplier by a test; the first that is refused is given by its number and its code.
+fn check_rows<B: Book, T: Fn(Row, i64) -> bool>(
+    book: &B,
+    values: Multipliers<'_>,
+    takes: T,
+) -> Result<(), (usize, u8)>
+    requires { T.IsAlwaysCallable takes }
+    ensures { (test : TheRow → ℤ → Bool)
+        → ((r : TheRow) (y : ℤ) (t : Bool) → FitsSigned w64 y → T.post takes r y t → t ≡ test r y)
+        → result ≡ first_refused test 0 (heads_of (B.Book.meaning book.now)) (multipliers values.entry.bytes.now) }
 {
-    if multiplier_reaches(y) {
-        None
-    } else {
-        Some(DocketFault::MultiplierBeyond {
-            row: i,
-            code: row.code,
-        })
-    }
-}
-
-/// The first row whose multiplier lies beyond ±10^12.
-fn first_large<B: Book>(book: &B, values: &[u8]) -> Option<DocketFault>
-    ensures { result ≡ first_large 0 (B.Book.meaning book.now).rows (multipliers values.now) }
-{
-    let mut rest = values;
-    let mut i: usize = 0;
-    while let Some((y, after)) = split_multiplier(rest) {
-        let row = book.row(i)?;
-        if let Some(fault) = size_fault(i, row, y) {
-            return Some(fault);
+    for (i, (row, y)) in Rows::of(book).zip(values.iter()).enumerate() {
+        if !takes(row, y.into()) {
+            return Err((i, row.code));
         }
-        rest = after;
-        i += 1;
     }
-    None
+    Ok(())
 }
 
-/// The fault of a row without the side that its multiplier takes.
-fn side_fault(i: usize, row: Row, y: i64) -> Option<DocketFault>
-    ensures { result ≡ (if has_side y row.lower row.upper then None else Some (SideAbsent i row.code)) }
+/// The first row whose multiplier lies beyond ±10^12 is the fault.
+pub(crate) fn check_sizes<B: Book>(book: &B, values: Multipliers<'_>) -> Result<(), DocketFault>
+    ensures { result ≡ passed (first_large 0 (B.Book.meaning book.now).rows (multipliers values.entry.bytes.now)) }
 {
-    if has_side(y, row) {
-        None
-    } else {
-        Some(DocketFault::SideAbsent {
-            row: i,
-            code: row.code,
-        })
-    }
+    check_rows(book, values, |_, y| multiplier_reaches(y)).map_err(|(
+        row,
+        code,
+    )| DocketFault::MultiplierBeyond { row, code })
 }
 
-/// The first row without the side that its multiplier takes.
-fn first_sideless<B: Book>(book: &B, values: &[u8]) -> Option<DocketFault>
-    ensures { result ≡ first_sideless 0 (B.Book.meaning book.now).rows (multipliers values.now) }
+/// The first row without the side that its multiplier takes is the fault.
+pub(crate) fn check_sides<B: Book>(book: &B, values: Multipliers<'_>) -> Result<(), DocketFault>
+    ensures { result ≡ passed (first_sideless 0 (B.Book.meaning book.now).rows (multipliers values.entry.bytes.now)) }
 {
-    let mut rest = values;
-    let mut i: usize = 0;
-    while let Some((y, after)) = split_multiplier(rest) {
-        let row = book.row(i)?;
-        if let Some(fault) = side_fault(i, row, y) {
-            return Some(fault);
-        }
-        rest = after;
-        i += 1;
-    }
-    None
-}
-
-/// The fault of the first row that is refused: sizes over all rows, then sides over all rows.
-pub(crate) fn rows_fault<B: Book>(book: &B, values: &[u8]) -> Option<DocketFault>
-    ensures { result ≡ or_else (first_large 0 (B.Book.meaning book.now).rows (multipliers values.now)) (first_sideless 0 (B.Book.meaning book.now).rows (multipliers values.now)) }
-{
-    if let Some(fault) = first_large(book, values) {
-        return Some(fault);
-    }
-    first_sideless(book, values)
+    check_rows(book, values, |row, y| has_side(y, row)).map_err(|(
+        row,
+        code,
+    )| DocketFault::SideAbsent { row, code })
 }
 
 /// What the rows add, in order.
-pub(crate) fn add_rows<B: Book>(book: &B, values: &[u8]) -> Result<i64, DocketFault>
-    ensures { result ≡ rows_total 0 (B.Book.meaning book.now).rows (multipliers values.now) (pos 0) }
+pub(crate) fn add_rows<B: Book>(book: &B, values: Multipliers<'_>) -> Result<i64, DocketFault>
+    ensures { result ≡ rows_total 0 (B.Book.meaning book.now).rows (multipliers values.entry.bytes.now) (pos 0) }
 {
-    let mut rest = values;
-    let mut i: usize = 0;
-    let mut total: i64 = 0;
-    while let Some((y, after)) = split_multiplier(rest) {
-        let Some(row) = book.row(i) else {
-            return Ok(total);
-        };
-        total = add_row(i, row, y, total)?;
-        rest = after;
-        i += 1;
+    let mut total = 0;
+    for (i, (row, y)) in Rows::of(book).zip(values.iter()).enumerate() {
+        total = add_row(i, row, y.into(), total)?;
     }
     Ok(total)
 }

@@ -1,6 +1,5 @@
 //! What one multiplier, one term and one column do.
 ghost use Rattle.std.specs.Prelude.{◌≡◌};
-ghost use Rattle.listing_fields.specs.Tests.{is_nought};
 ghost use Rattle.certificates.specs.Checks.{multiplier_reaches, has_side};
 ghost use Rattle.multipliers.specs.Sums.{by_sign, with_limit, row_total, column_total};
 ghost use Rattle.multipliers.specs.Costs.{start, cost_less};
@@ -11,13 +10,6 @@ use reach::{less, more, product};
 
 /// Fine units to the unit.
 const SCALE: i64 = 100_000;
-
-/// Whether a multiplier is nought.
-pub(crate) fn is_nought(y: i64) -> bool
-    ensures { result ≡ is_nought y }
-{
-    y == 0
-}
 
 /// Whether a multiplier lies within ±10^12.
 pub(crate) fn multiplier_reaches(y: i64) -> bool
@@ -57,30 +49,26 @@ fn add_limit(total: i64, factor: i64, low: i64, high: i64) -> Option<i64>
 pub(crate) fn add_row(i: usize, row: Row, y: i64, total: i64) -> Result<i64, DocketFault>
     ensures { result ≡ row_total i row y total }
 {
-    match add_limit(total, y, row.lower.unwrap_or(0), row.upper.unwrap_or(0)) {
-        Some(t) => Ok(t),
-        None => Err(DocketFault::RowBeyond {
+    add_limit(total, y, row.lower.unwrap_or(0), row.upper.unwrap_or(0)).ok_or(
+        DocketFault::RowBeyond {
             row: i,
             code: row.code,
-        }),
-    }
+        },
+    )
 }
 
 /// What a column's reduced cost starts from.
 pub(crate) fn start_cost(column: Column) -> Option<i64>
     ensures { result ≡ start column }
 {
-    product(SCALE, column.price as i64)
+    product(SCALE, i64::from(column.price))
 }
 
 /// A reduced cost less multiplier × coefficient.
 pub(crate) fn subtract_term(cost: Option<i64>, y: i64, coefficient: i32) -> Option<i64>
     ensures { result ≡ cost_less cost y coefficient }
 {
-    match cost {
-        Some(k) => less(k, y, coefficient as i64),
-        None => None,
-    }
+    less(cost?, y, i64::from(coefficient))
 }
 
 /// The total and what a column adds by its reduced cost.
@@ -92,11 +80,6 @@ pub(crate) fn add_column(
 ) -> Result<i64, DocketFault>
     ensures { result ≡ column_total j column cost total }
 {
-    let Some(k) = cost else {
-        return Err(DocketFault::ColumnBeyond { column: j });
-    };
-    match add_limit(total, k, column.lower as i64, column.upper as i64) {
-        Some(t) => Ok(t),
-        None => Err(DocketFault::ColumnBeyond { column: j }),
-    }
+    cost.and_then(|k| add_limit(total, k, i64::from(column.lower), i64::from(column.upper)))
+        .ok_or(DocketFault::ColumnBeyond { column: j })
 }

@@ -1,4 +1,3 @@
 pub mod Magnitudes
 pub mod Scans
-pub mod Totals
 pub mod Verdicts

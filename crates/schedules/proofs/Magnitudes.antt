@@ -1,17 +1,8 @@
 -- How large a product and a running sum are.
-use Rattle.std.proofs.Common.{◌≡◌, ℕ, zero, suc, ◌+◌, ◌*◌, ◌≤◌, ℤ, pos, negsuc, ◌+ℤ◌, ◌*ℤ◌, neg_ℤ, nat_abs, refl, mul-le-mul, arith, w32, w64, SFits, to_z, of_z}
-use Rattle.std.proofs.lemmas.Int.{ints, to_z-of_z}
+use Rattle.std.proofs.Common.{◌≡◌, ℕ, ◌+◌, ◌*◌, ◌≤◌, ℤ, pos, negsuc, ◌+ℤ◌, ◌*ℤ◌, nat_abs, sym, subst, ◌∙◌, mul-le-mul, arith, w64, SFits, to_z, of_z}
+use Rattle.std.proofs.lemmas.Int.{ints, to_z-of_z, unsigned_abs-mul}
+use Rattle.books.proofs.Integers.{linear}
 use Rattle.books.proofs.Sounds.{Within}
-
-abs_neg : (n : ℕ) → nat_abs (neg_ℤ (pos n)) ≡ n
-abs_neg zero = refl
-abs_neg (suc n) = refl
-
-abs_mul : (a b : ℤ) → nat_abs (a *ℤ b) ≡ nat_abs a * nat_abs b
-abs_mul (pos a) (pos b) = refl
-abs_mul (pos a) (negsuc b) = abs_neg (a * suc b)
-abs_mul (negsuc a) (pos b) = abs_neg (suc a * b)
-abs_mul (negsuc a) (negsuc b) = refl
 
 abs_out : (m : ℕ) (z : ℤ) → Within m z → nat_abs z ≤ m
 abs_out m (pos n) h = let k = h.below in omega (arith, ints)
@@ -24,43 +15,53 @@ abs_in m (negsuc n) h = record { above = omega (arith, ints); below = omega (ari
 pub within_times : (m n : ℕ) (a b : ℤ) → Within m a → Within n b → Within (m * n) (a *ℤ b)
 within_times m n a b p q =
     let both = mul-le-mul (abs_out m a p) (abs_out n b q) in
-    let e = abs_mul a b in
+    let e = unsigned_abs-mul a b in
     abs_in (m * n) (a *ℤ b) (omega arith)
 
-fits_within : (z : ℤ) → SFits w32 z → Within 2147483648 z
-fits_within z h = record { above = omega (arith, ints); below = omega (arith, ints) }
+-- a running sum of n numbers of at most m, and what is left of the total
+pub record Sum (m n : ℕ) (total left sum : ℤ) : Type 0 where
+  pub whole : sum +ℤ left ≡ total
+  pub far : Within (m * n) sum
 
--- the product of two numbers of 32 bits fits 64
-pub product_fits : (a b : ℤ) → SFits w32 a → SFits w32 b → SFits w64 (a *ℤ b)
-product_fits a b p q =
-    let n = within_times 2147483648 2147483648 a b (fits_within a p) (fits_within b q) in
-    let k = n.below in
-    let l = n.above in
-    omega (arith, ints)
+pub sum_begins : (m : ℕ) (total : ℤ) → Sum m 0 total total (pos 0)
+sum_begins m total = record { whole = omega (arith, ints); far = record { above = omega (arith, ints); below = omega (arith, ints) } }
 
--- one more number of at most m, behind k of them
-module _ (m k : ℕ) (most : m * k + m ≤ 1000000000000000000) (sum x : ℤ) (far : Within (m * k) sum) (near : Within m x) where
-  fits : SFits w64 x
-  fits = let a = near.above in let b = near.below in omega (arith, ints)
+-- y is added, and fits
+pub record Turned (m n : ℕ) (total less sum y : ℤ) : Type 0 where
+  pub fits : SFits w64 (sum +ℤ to_z w64 (of_z w64 y))
+  pub next : (k : ℕ) → k ≡ n + 1 → Sum m k total less (to_z w64 (of_z w64 (sum +ℤ to_z w64 (of_z w64 y))))
+
+-- one number more, as 64 bits hold it
+module _ (m n : ℕ) {total left sum : ℤ} (most : m * n + m ≤ 1000000000000000000) (so_far : Sum m n total left sum) (x y less : ℤ) (near : Within m x) (front : left ≡ x +ℤ less) (same : y ≡ x) where
+  held : to_z w64 (of_z w64 y) ≡ x
+  held =
+      let a = near.above in
+      let b = near.below in
+      let fits : SFits w64 y = omega (arith, ints) in
+      to_z-of_z w64 y fits ∙ same
 
   whole : SFits w64 (sum +ℤ x)
   whole =
       let a = near.above in
       let b = near.below in
-      let c = far.above in
-      let d = far.below in
+      let c = so_far.far.above in
+      let d = so_far.far.below in
       omega (arith, ints)
 
-  pub more_fits : SFits w64 (sum +ℤ to_z w64 (of_z w64 x))
-  more_fits = rw (to_z-of_z w64 x fits) whole
-
-  pub more_is : to_z w64 (of_z w64 (sum +ℤ to_z w64 (of_z w64 x))) ≡ sum +ℤ x
-  more_is = rw (to_z-of_z w64 x fits) (to_z-of_z w64 (sum +ℤ x) whole)
-
-  pub more_within : Within (m * (k + 1)) (sum +ℤ x)
-  more_within =
+  pub sum_turn : Turned m n total less sum y
+  sum_turn =
       let a = near.above in
       let b = near.below in
-      let c = far.above in
-      let d = far.below in
-      record { above = omega (arith, ints); below = omega (arith, ints) }
+      let c = so_far.far.above in
+      let d = so_far.far.below in
+      let w = so_far.whole in
+      record {
+        fits = rw held whole;
+        next = λ k e. rw (held, to_z-of_z w64 (sum +ℤ x) whole) (record {
+          whole = omega (arith, linear);
+          far = subst (λ (j : ℕ). Within (m * j) (sum +ℤ x)) (sym e) (record { above = omega (arith, ints); below = omega (arith, ints) });
+        });
+      }
+
+pub sum_ends : {m n : ℕ} {total left sum : ℤ} → Sum m n total left sum → left ≡ pos 0 → sum ≡ total
+sum_ends s e = let w = s.whole in omega (arith, linear)

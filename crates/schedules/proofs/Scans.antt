@@ -1,141 +1,121 @@
--- One turn of each loop over a schedule.
-use Rattle.std.proofs.Common.{◌≡◌, ℕ, zero, suc, ◌+◌, ◌<◌, Bool, true, false, cond, ◌&&◌, ltb, List, [], ◌∷◌, length, get_or, drop, ℤ, pos, ◌+ℤ◌, ◌*ℤ◌, ◌≤ℤ◌, Some, None, Ok, Err, Option, sym, refl, ap, ◌∙◌, add-one, arith}
+-- What the loops over a schedule go through: each column with its number, each row with its number, and the terms of a row.
+use Rattle.std.proofs.Common.{◌≡◌, ℕ, zero, suc, ◌+◌, ◌<◌, ◌≤◌, Bool, true, false, cond, not, ◌&&◌, ltb, List, [], ◌∷◌, map, length, get_or, drop, ℤ, pos, ◌+ℤ◌, ◌*ℤ◌, ◌≤ℤ◌, Some, None, Ok, Err, Option, Result, MatchOption, sym, refl, ap, ◌∙◌, subst, add-zero, zero-add, add-one, arith}
 use lib.Signed.{le_z}
-use Rattle.std.specs.List.{slice_get}
+use Rattle.std.specs.List.{AllByRecursion, slice_get, zip, enumerate_from, find, position_from, position_or_len}
 use Rattle.std.specs.Option.{option_map}
+use Rattle.std.proofs.lemmas.Iterator.Adapters.{position_from-zero}
 use Rattle.std.proofs.lemmas.Int.{ints}
 use Rattle.std.proofs.lemmas.Bool.{and_parts, ltb-true}
 use Rattle.listing_fields.specs.declared.term.Term.{Term}
 use Rattle.listing_fields.specs.Tests.{is_coefficient, terms_in_range, terms_refer}
 use Rattle.books.specs.declared.part.Column.{Column}
 use Rattle.books.specs.declared.part.Row.{Row}
-use Rattle.books.specs.Lists.{FullRow, head, term_in}
-use Rattle.books.specs.Conditions.{every, sound_column}
+use Rattle.books.specs.Lists.{FullRow, Lists, head}
+use Rattle.books.specs.Walks.{heads_of, terms_in, terms_of}
+use Rattle.books.specs.Conditions.{every, sound_column, sound}
 use Rattle.books.specs.Schedules.{activity, benefit}
-use Rattle.books.proofs.Sounds.{Within, within_parts, sound_column_parts}
+use Rattle.books.proofs.Sounds.{Within, within_parts, sound_column_parts, sound_parts, row_sound, row_short}
 use Rattle.certificates.specs.declared.fault.DocketFault.{DocketFault}
 use Rattle.certificates.specs.declared.fault.DocketFault.TheVariants.{ColumnBroken, RowBroken}
-use Rattle.certificates.specs.Checks.{within_limits, first_broken_column, within_sides, first_broken_row}
-use Rattle.schedules.specs.Turns.{passed, broken_by, broken_row, gain_by, terms_of}
+use Rattle.certificates.specs.Checks.{within_limits, first_broken_column, within_sides, first_broken_row, passed}
+use Rattle.certificates.proofs.Passed.{cond_none}
 use Rattle.schedules.proofs.Magnitudes.{within_times}
 
--- a fault, if there is one, else that of the rest
-abbrev pub or_else : Option DocketFault → Option DocketFault → Option DocketFault
-or_else None r = r
-or_else (Some f) r = Some f
+-- the first column beyond its limits is the first pair that fails
+not_cond : (t : Bool) (a b : Option DocketFault) → cond t a b ≡ cond (not t) b a
+not_cond true a b = refl
+not_cond false a b = refl
 
-or_else_cond : (t : Bool) (f : DocketFault) (r : Option DocketFault) → cond t r (Some f) ≡ or_else (cond t None (Some f)) r
-or_else_cond true f r = refl
-or_else_cond false f r = refl
+abbrev pub beyond : Column × ℤ → Bool
+beyond p = not (within_limits p.0 p.1)
 
--- a check that passes leaves the rest, and one that fails is the fault
-pub cond_none : (t : Bool) (f : DocketFault) (r : Option DocketFault) → cond t r (Some f) ≡ None → (t ≡ true) × (r ≡ None)
-cond_none true f r e = (refl, e)
-cond_none false f r e = cc
+map_cond : (t : Bool) (a b : Option ℕ) → option_map ColumnBroken (cond t a b) ≡ cond t (option_map ColumnBroken a) (option_map ColumnBroken b)
+map_cond true a b = refl
+map_cond false a b = refl
 
--- the columns from j on, of which the first is checked under the number k
-pub column_turn : (k j : ℕ) (cs : List Column) (x : ℤ) (xs : List ℤ) → first_broken_column k (drop j cs) (x ∷ xs) ≡ or_else (broken_by k (slice_get cs j) x) (first_broken_column (suc k) (drop (suc j) cs) xs)
-column_turn k zero [] x xs = refl
-column_turn k (suc j) [] x xs = refl
-column_turn k zero (c ∷ cs) x xs = or_else_cond (within_limits c x) (ColumnBroken k) (first_broken_column (suc k) cs xs)
-column_turn k (suc j) (c ∷ cs) x xs = column_turn k j cs x xs
+first_broken_at : (k : ℕ) (cs : List Column) (xs : List ℤ) → first_broken_column k cs xs ≡ option_map ColumnBroken (position_from beyond k (zip cs xs))
+first_broken_at k [] xs = refl
+first_broken_at k (c ∷ cs) [] = refl
+first_broken_at k (c ∷ cs) (x ∷ xs) =
+    not_cond (within_limits c x) (first_broken_column (suc k) cs xs) (Some (ColumnBroken k))
+    ∙ ap (cond (beyond (c, x)) (Some (ColumnBroken k))) (first_broken_at (suc k) cs xs ∙ ap (λ n. option_map ColumnBroken (position_from beyond n (zip cs xs))) (sym (add-one k)))
+    ∙ sym (map_cond (beyond (c, x)) (Some k) (position_from beyond (k + 1) (zip cs xs)))
 
-pub fault_is : (o : Option DocketFault) (f : DocketFault) → Err f ≡ passed o → o ≡ Some f
-fault_is None f e = cc
-fault_is (Some h) f e = cc
+-- what the closure that is asked for the fault tells
+pub columns_checked : (cs : List Column) (xs : List ℤ) (o : Option ℕ) (r : Result (Unit {0}) DocketFault) (Tells : ℕ → Type 0) → o ≡ cond (ltb (position_or_len beyond (zip cs xs)) (length (zip cs xs))) (Some (position_or_len beyond (zip cs xs))) None
+    → ((j : ℕ) → Tells j → r ≡ Err (ColumnBroken j)) → MatchOption o (r ≡ Ok tt) Tells → r ≡ passed (first_broken_column 0 cs xs)
+columns_checked cs xs o r Tells at err is =
+    by o is
+    ∙ ap (λ p. passed (option_map ColumnBroken p)) (at ∙ position_from-zero beyond (zip cs xs))
+    ∙ ap passed (sym (first_broken_at 0 cs xs))
+  where
+    by : (p : Option ℕ) → MatchOption p (r ≡ Ok tt) Tells → r ≡ passed (option_map ColumnBroken p)
+    by None e = e
+    by (Some j) e = err j e
 
-pub none_is : (o : Option DocketFault) (u : Unit {0}) → Ok u ≡ passed o → o ≡ None
-none_is None u e = refl
-none_is (Some h) u e = cc
+-- ---- rows, each with its number
 
--- the turn at the column j, where `all` is the first fault and xs are the numbers left
-module _ (cs : List Column) (j : ℕ) (x y : ℤ) (xs ys : List ℤ) (all : Option DocketFault) (inv : all ≡ first_broken_column j (drop j cs) xs) (front : xs ≡ x ∷ ys) (same : y ≡ x) where
-  column_here : all ≡ or_else (broken_by j (slice_get cs j) y) (first_broken_column (j + 1) (drop (j + 1) cs) ys)
-  column_here = rw (same, add-one j) (inv ∙ ap (first_broken_column j (drop j cs)) front ∙ column_turn j j cs x ys)
+-- the row's activity, by its number, lies beyond its sides
+abbrev pub beyond_sides : (ℕ → ℤ) → ℕ × Row → Bool
+beyond_sides act p = not (within_sides p.1.lower p.1.upper (act p.0))
 
-  pub column_goes : (u : Unit {0}) → Ok u ≡ passed (broken_by j (slice_get cs j) y) → all ≡ first_broken_column (j + 1) (drop (j + 1) cs) ys
-  column_goes u ok = column_here ∙ ap (λ o. or_else o (first_broken_column (j + 1) (drop (j + 1) cs) ys)) (none_is _ u ok)
+abbrev broken_at : ℕ × Row → DocketFault
+broken_at p = RowBroken p.0 p.1.code
 
-  pub column_stops : (f : DocketFault) → Err f ≡ passed (broken_by j (slice_get cs j) y) → Err f ≡ passed all
-  column_stops f err =
-      sym (ap passed (column_here ∙ ap (λ o. or_else o (first_broken_column (j + 1) (drop (j + 1) cs) ys)) (fault_is _ f err)))
+numbered_from : (k : ℕ) (rs : List FullRow) (xs : List ℤ) (act : ℕ → ℤ) → ((j : ℕ) → act (k + j) ≡ activity (terms_in (slice_get rs j)) xs) → first_broken_row k rs xs ≡ option_map broken_at (find (beyond_sides act) (enumerate_from k (map head rs)))
+numbered_from k [] xs act e = refl
+numbered_from k (r ∷ rs) xs act e =
+    let here : act k ≡ activity r.terms xs = ap act (sym (add-zero k)) ∙ e 0 in
+    let later : (j : ℕ) → act (suc k + j) ≡ activity (terms_in (slice_get rs j)) xs = λ j. let n : suc k + j ≡ k + suc j = omega arith in ap act n ∙ e (suc j) in
+    let test = within_sides r.lower r.upper (act k) in
+    let rest = find (beyond_sides act) (enumerate_from (k + 1) (map head rs)) in
+    ap (λ a. cond (within_sides r.lower r.upper a) (first_broken_row (suc k) rs xs) (Some (RowBroken k r.code))) (sym here)
+    ∙ ap (λ o. cond test o (Some (RowBroken k r.code)))
+    (numbered_from (suc k) rs xs act later ∙ ap (λ n. option_map broken_at (find (beyond_sides act) (enumerate_from n (map head rs)))) (sym (add-one k)))
+    ∙ by test rest
+  where
+    by : (t : Bool) (o : Option (ℕ × Row)) → cond t (option_map broken_at o) (Some (RowBroken k r.code)) ≡ option_map broken_at (cond (not t) (Some (k, head r)) o)
+    by true o = refl
+    by false o = refl
 
-pub columns_end : (k : ℕ) (cs : List Column) → first_broken_column k cs [] ≡ None
-columns_end k [] = refl
-columns_end k (c ∷ cs) = refl
+-- what the closure that is asked for the fault tells
+pub rows_checked : (b : Lists) (xs : List ℤ) (o : Option (ℕ × Row)) (r : Result (Unit {0}) DocketFault) (Tells : ℕ × Row → Type 0) → option_map (λ p. (p.0, p.1)) o ≡ find (beyond_sides (λ i. activity (terms_of b i) xs)) (enumerate_from 0 (heads_of b))
+    → ((p : ℕ × Row) → Tells p → r ≡ Err (RowBroken p.0 p.1.code)) → MatchOption o (r ≡ Ok tt) Tells → r ≡ passed (first_broken_row 0 b.rows xs)
+rows_checked b xs o r Tells found err is =
+    by o is
+    ∙ ap (λ p. passed (option_map broken_at p)) found
+    ∙ ap passed (sym (numbered_from 0 b.rows xs (λ i. activity (terms_of b i) xs) (λ j. ap (λ i. activity (terms_of b i) xs) (zero-add j))))
+  where
+    by : (p : Option (ℕ × Row)) → MatchOption p (r ≡ Ok tt) Tells → r ≡ passed (option_map broken_at (option_map (λ q. (q.0, q.1)) p))
+    by None e = e
+    by (Some p) e = err p e
 
-pub gain_turn : (j : ℕ) (cs : List Column) (x : ℤ) (xs : List ℤ) → benefit (drop j cs) (x ∷ xs) ≡ gain_by (slice_get cs j) x +ℤ benefit (drop (suc j) cs) xs
-gain_turn zero [] x xs = refl
-gain_turn (suc j) [] x xs = refl
-gain_turn zero (c ∷ cs) x xs = refl
-gain_turn (suc j) (c ∷ cs) x xs = gain_turn j cs x xs
+-- ---- columns, each with its number
 
-pub benefit_end : (cs : List Column) → benefit cs [] ≡ pos 0
-benefit_end [] = refl
-benefit_end (c ∷ cs) = refl
+-- what the pairs add to the net benefit
+abbrev pub gains : List (Column × ℤ) → ℤ
+gains [] = pos 0
+gains (p ∷ ps) = p.0.price *ℤ p.1 +ℤ gains ps
 
-pub row_turn : (k i : ℕ) (rs : List FullRow) (xs : List ℤ) (r : Row) → option_map head (slice_get rs i) ≡ Some r → first_broken_row k (drop i rs) xs ≡ or_else (broken_row k r (activity (terms_of (slice_get rs i)) xs)) (first_broken_row (suc k) (drop (suc i) rs) xs)
-row_turn k i [] xs r e = cc
-row_turn k zero (q ∷ rs) xs r e =
-    let same : head q ≡ r = cc in
-    or_else_cond (within_sides q.lower q.upper (activity q.terms xs)) (RowBroken k q.code) (first_broken_row (suc k) rs xs)
-    ∙ ap (λ (h : Row). or_else (broken_row k h (activity q.terms xs)) (first_broken_row (suc k) rs xs)) same
-row_turn k (suc i) (q ∷ rs) xs r e = row_turn k i rs xs r e
+pub benefit_pairs : (cs : List Column) (xs : List ℤ) → benefit cs xs ≡ gains (zip cs xs)
+benefit_pairs [] xs = refl
+benefit_pairs (c ∷ cs) [] = refl
+benefit_pairs (c ∷ cs) (x ∷ xs) = ap (λ z. c.price *ℤ x +ℤ z) (benefit_pairs cs xs)
 
--- the turn at the row i, of the activity a, where `all` is the first fault
-module _ (rs : List FullRow) (i : ℕ) (xs : List ℤ) (r : Row) (a : ℤ) (all : Option DocketFault) (inv : all ≡ first_broken_row i (drop i rs) xs) (at : Some r ≡ option_map head (slice_get rs i)) (same : a ≡ activity (terms_of (slice_get rs i)) xs) where
-  row_here : all ≡ or_else (broken_row i r a) (first_broken_row (i + 1) (drop (i + 1) rs) xs)
-  row_here = rw (same, add-one i) (inv ∙ row_turn i i rs xs r (sym at))
-
-  pub row_goes : (u : Unit {0}) → Ok u ≡ passed (broken_row i r a) → all ≡ first_broken_row (i + 1) (drop (i + 1) rs) xs
-  row_goes u ok = row_here ∙ ap (λ o. or_else o (first_broken_row (i + 1) (drop (i + 1) rs) xs)) (none_is _ u ok)
-
-  pub row_stops : (f : DocketFault) → Err f ≡ passed (broken_row i r a) → Err f ≡ passed all
-  row_stops f err = sym (ap passed (row_here ∙ ap (λ o. or_else o (first_broken_row (i + 1) (drop (i + 1) rs) xs)) (fault_is _ f err)))
-
-pub row_below : (rs : List FullRow) (i : ℕ) (r : Row) → option_map head (slice_get rs i) ≡ Some r → i < length rs
-row_below [] i r e = cc
-row_below (q ∷ rs) zero r e = omega arith
-row_below (q ∷ rs) (suc i) r e = let h = row_below rs i r e in omega arith
-
-pub rows_end : (k i : ℕ) (rs : List FullRow) (xs : List ℤ) → option_map head (slice_get rs i) ≡ None → first_broken_row k (drop i rs) xs ≡ None
-rows_end k zero [] xs e = refl
-rows_end k (suc i) [] xs e = refl
-rows_end k zero (q ∷ rs) xs e = cc
-rows_end k (suc i) (q ∷ rs) xs e = rows_end k i rs xs e
-
-pub term_in_terms : (o : Option FullRow) (k : ℕ) → term_in o k ≡ slice_get (terms_of o) k
-term_in_terms None k = refl
-term_in_terms (Some r) k = refl
-
-pub term_turn : (k : ℕ) (ts : List Term) (xs : List ℤ) (t : Term) → slice_get ts k ≡ Some t → activity (drop k ts) xs ≡ t.coefficient *ℤ get_or xs t.column (pos 0) +ℤ activity (drop (suc k) ts) xs
-term_turn k [] xs t e = cc
-term_turn zero (q ∷ ts) xs t e =
-    let same : q ≡ t = cc in
-    ap (λ (h : Term). h.coefficient *ℤ get_or xs h.column (pos 0) +ℤ activity ts xs) same
-term_turn (suc k) (q ∷ ts) xs t e = term_turn k ts xs t e
-
-pub terms_end : (k : ℕ) (ts : List Term) (xs : List ℤ) → slice_get ts k ≡ None → activity (drop k ts) xs ≡ pos 0
-terms_end zero [] xs e = refl
-terms_end (suc k) [] xs e = refl
-terms_end zero (q ∷ ts) xs e = cc
-terms_end (suc k) (q ∷ ts) xs e = terms_end k ts xs e
-
--- an entry stands before the end
-pub nth_below : {X : Type 0} (xs : List X) (i : ℕ) (x : X) → slice_get xs i ≡ Some x → i < length xs
-nth_below [] i x e = cc
-nth_below (y ∷ ys) zero x e = omega arith
-nth_below (y ∷ ys) (suc i) x e = let h = nth_below ys i x e in omega arith
-
-pub get_d_some : (xs : List ℤ) (i : ℕ) (x : ℤ) → Some x ≡ slice_get xs i → x ≡ get_or xs i (pos 0)
-get_d_some [] i x e = cc
-get_d_some (y ∷ ys) zero x e = cc
-get_d_some (y ∷ ys) (suc i) x e = get_d_some ys i x e
-
-pub get_or_none : (xs : List ℤ) (i : ℕ) → None ≡ slice_get xs i → pos 0 ≡ get_or xs i (pos 0)
-get_or_none [] i e = refl
-get_or_none (y ∷ ys) zero e = cc
-get_or_none (y ∷ ys) (suc i) e = get_or_none ys i e
+-- the number at a place, nought past the end, as a closure tells of the one that is there
+pub number_at : (xs : List ℤ) (i : ℕ) (o : Option ℤ) (r : ℤ) (Tells : ℤ → Type 0) → o ≡ slice_get xs i → ((x : ℤ) → Tells x → r ≡ x) → MatchOption o (r ≡ pos 0) Tells → r ≡ get_or xs i (pos 0)
+number_at xs i None r Tells at is e = e ∙ none xs i at
+  where
+    none : (xs : List ℤ) (i : ℕ) → None ≡ slice_get xs i → pos 0 ≡ get_or xs i (pos 0)
+    none [] i e = refl
+    none (y ∷ ys) zero e = cc
+    none (y ∷ ys) (suc i) e = none ys i e
+number_at xs i (Some x) r Tells at is e = is x e ∙ some xs i at
+  where
+    some : (xs : List ℤ) (i : ℕ) → Some x ≡ slice_get xs i → x ≡ get_or xs i (pos 0)
+    some [] i e = cc
+    some (y ∷ ys) zero e = cc
+    some (y ∷ ys) (suc i) e = some ys i e
 
 -- ---- how large the numbers are, once the columns pass
 
@@ -168,25 +148,53 @@ numbers_within k (c ∷ cs) (x ∷ xs) zero s e h =
 numbers_within k (c ∷ cs) (x ∷ xs) (suc j) s e h =
     numbers_within (suc k) cs xs j (and_parts (sound_column c) (every sound_column cs) s).1 (cond_none (within_limits c x) (ColumnBroken k) _ e).1 (omega arith)
 
-pub gain_within : (k j : ℕ) (cs : List Column) (x : ℤ) (xs : List ℤ) → every sound_column cs ≡ true → first_broken_column k (drop j cs) (x ∷ xs) ≡ None → Within 200000000000000 (gain_by (slice_get cs j) x)
-gain_within k j [] x xs s e = nought_within 200000000000000
-gain_within k zero (c ∷ cs) x xs s e =
-    let sound = (and_parts (sound_column c) (every sound_column cs) s).0 in
-    let passes = (cond_none (within_limits c x) (ColumnBroken k) _ e).0 in
-    within_times 10000000 20000000 c.price x (sound_column_parts c sound).price (number_within c x sound passes)
-gain_within k (suc j) (c ∷ cs) x xs s e = gain_within k j cs x xs (and_parts (sound_column c) (every sound_column cs) s).1 e
+-- what each pair adds to the net benefit, and what each term adds to an activity
+abbrev pub SmallGain : Column × ℤ → Type 0
+SmallGain p = Within 200000000000000 (p.0.price *ℤ p.1)
 
--- a term of a row that keeps the conditions
-pub term_range : (n : ℕ) (ts : List Term) (k : ℕ) (t : Term) → terms_in_range ts ≡ true → terms_refer n ts ≡ true → slice_get ts k ≡ Some t → Within 1000000 t.coefficient × (t.column < n)
-term_range n [] k t i r e = cc
-term_range n (q ∷ ts) zero t i r e =
-    let same : q ≡ t = cc in
-    let here = (and_parts (ltb q.column 65536 && is_coefficient q.coefficient) (terms_in_range ts) i).0 in
-    let size = (and_parts (ltb q.column 65536) (is_coefficient q.coefficient) here).1 in
-    let refers = (and_parts (ltb q.column n) (terms_refer n ts) r).0 in
-    rw (sym same) (within_parts 1000000 q.coefficient size, ltb-true q.column n refers)
-term_range n (q ∷ ts) (suc k) t i r e =
-    term_range n ts k t
-    (and_parts (ltb q.column 65536 && is_coefficient q.coefficient) (terms_in_range ts) i).1
-    (and_parts (ltb q.column n) (terms_refer n ts) r).1
-    e
+pub gains_small : (k : ℕ) (cs : List Column) (xs : List ℤ) → every sound_column cs ≡ true → first_broken_column k cs xs ≡ None → AllByRecursion SmallGain (zip cs xs)
+gains_small k [] xs s e = tt
+gains_small k (c ∷ cs) [] s e = tt
+gains_small k (c ∷ cs) (x ∷ xs) s e =
+    let sound = and_parts (sound_column c) (every sound_column cs) s in
+    let passes = cond_none (within_limits c x) (ColumnBroken k) _ e in (
+      within_times 10000000 20000000 c.price x (sound_column_parts c sound.0).price (number_within c x sound.0 passes.0),
+      gains_small (suc k) cs xs sound.1 passes.1,
+    )
+
+abbrev pub SmallTerm : List ℤ → Term → Type 0
+SmallTerm xs t = Within 20000000000000 (t.coefficient *ℤ get_or xs t.column (pos 0))
+
+few_terms_small : (n : ℕ) (ts : List Term) (xs : List ℤ) → terms_in_range ts ≡ true → terms_refer n ts ≡ true → ((j : ℕ) → j < n → Within 20000000 (get_or xs j (pos 0))) → AllByRecursion (SmallTerm xs) ts
+few_terms_small n [] xs i r e = tt
+few_terms_small n (t ∷ ts) xs i r e =
+    let range = and_parts (ltb t.column 65536 && is_coefficient t.coefficient) (terms_in_range ts) i in
+    let size = (and_parts (ltb t.column 65536) (is_coefficient t.coefficient) range.0).1 in
+    let refers = and_parts (ltb t.column n) (terms_refer n ts) r in (
+      within_times 1000000 20000000 t.coefficient (get_or xs t.column (pos 0)) (within_parts 1000000 t.coefficient size) (e t.column (ltb-true t.column n refers.0)),
+      few_terms_small n ts xs range.1 refers.1 e,
+    )
+
+-- the terms of a row that a book has
+pub record SmallTerms (xs : List ℤ) (ts : List Term) : Type 0 where
+  pub few : length ts ≤ 500
+  pub small : AllByRecursion (SmallTerm xs) ts
+
+pub terms_small : (b : Lists) → sound b ≡ true → (xs : List ℤ) → first_broken_column 0 b.columns xs ≡ None → (i : ℕ) → SmallTerms xs (terms_of b i)
+terms_small b kept xs limits i = by (slice_get b.rows i) refl
+  where
+    by : (o : Option FullRow) → slice_get b.rows i ≡ o → SmallTerms xs (terms_in o)
+    by None e = record { few = omega arith; small = tt }
+    by (Some r) e =
+        let sound = row_sound b kept i r e in
+        record {
+          few = row_short b kept i r e;
+          small = few_terms_small (length b.columns) r.terms xs sound.in_range sound.refer (λ j h. numbers_within 0 b.columns xs j (sound_parts b kept).columns limits h);
+        }
+
+-- what holds of each holds of the one in front of what is left
+pub all_front : {X : Type 0} (P : X → Type 0) (xs ys : List X) (n : ℕ) (x : X) → AllByRecursion P xs → drop n xs ≡ x ∷ ys → P x
+all_front P [] ys zero x h e = cc
+all_front P [] ys (suc n) x h e = cc
+all_front P (y ∷ xs) ys zero x h e = let same : y ≡ x = cc in subst P same h.0
+all_front P (y ∷ xs) ys (suc n) x h e = all_front P xs ys n x h.1 e

@@ -1,5 +1,5 @@
 -- A schedule is accepted exactly when it meets the book and its net benefit is within reach.
-use Rattle.std.proofs.Common.{◌≡◌, ℕ, zero, suc, ◌/◌, ◌%◌, Bool, true, false, cond, not, ◌||◌, eqb, ◌⊎◌, List, [], ◌∷◌, length, ℤ, pos, negsuc, ◌*ℤ◌, ◌≤ℤ◌, IfOk, Some, None, Ok, Err, Option, Result, sym, refl, ap, ◌∙◌, inl, inr, arith}
+use Rattle.std.proofs.Common.{◌≡◌, ℕ, zero, suc, ◌/◌, ◌%◌, Bool, true, false, cond, not, ◌||◌, eqb, ◌⊎◌, List, [], ◌∷◌, length, ℤ, pos, negsuc, ◌*ℤ◌, ◌≤ℤ◌, MatchResult, Some, None, Ok, Err, Option, Result, sym, refl, ap, ◌∙◌, inl, inr, arith}
 use lib.Signed.{le_z}
 use Rattle.std.specs.List.{AllByRecursion}
 use Rattle.std.proofs.lemmas.Int.{ints}
@@ -12,10 +12,10 @@ use Rattle.books.proofs.Sounds.{sound_parts, sound_column_parts}
 use Rattle.certificates.specs.declared.fault.DocketFault.{DocketFault}
 use Rattle.certificates.specs.declared.fault.DocketFault.TheVariants.{ValueCount, ColumnBroken, RowBroken, BenefitBeyond}
 use Rattle.certificates.specs.Values.{quantities}
-use Rattle.certificates.specs.Checks.{unless, right_count, within_limits, first_broken_column, above_lower, below_upper, within_sides, first_broken_row, benefit_reaches, beyond_benefit, judged_schedule, schedule_answer, SchedulePasses}
-use Rattle.certificates.proofs.Numbers.{quantities_length}
-use Rattle.schedules.specs.Turns.{passed}
-use Rattle.schedules.proofs.Scans.{cond_none, limits_parts, fault_is, none_is}
+use Rattle.certificates.specs.Checks.{unless, right_count, within_limits, first_broken_column, above_lower, below_upper, within_sides, first_broken_row, benefit_reaches, beyond_benefit, judged_schedule, schedule_answer, SchedulePasses, passed}
+use Rattle.certificates.specs.Held.{quantities_held}
+use Rattle.certificates.proofs.Passed.{cond_none, fault_is, none_is}
+use Rattle.schedules.proofs.Scans.{limits_parts}
 
 one_times : (z : ℤ) → pos 1 *ℤ z ≡ z
 one_times z = omega (arith, ints)
@@ -167,7 +167,7 @@ count_cases false r v e = cc
 pub accepted_passes : (b : Lists) → sound b ≡ true → (vs : List ℕ) (v : ℤ) → schedule_answer b vs ≡ Ok v → (right_count 4 (length b.columns) vs ≡ true) × SchedulePasses b (quantities vs) v
 accepted_passes b kept vs v e =
     let p = count_cases (right_count 4 (length b.columns) vs) (judged_schedule b (quantities vs)) v e in
-    let long = sym (quantities_length vs ∙ count_is (length b.columns) vs p.0) in
+    let long = sym (quantities_held.count vs ∙ count_is (length b.columns) vs p.0) in
     (p.0, judged_passes b kept (quantities vs) long v p.1)
 
 -- a schedule of one number a column that passes is accepted
@@ -181,12 +181,20 @@ accepted_reaches b kept vs v e = (accepted_passes b kept vs v e).1.reach
 
 -- ---- what the answer says
 
-pub answer_passes : (b : Lists) → sound b ≡ true → (vs : List ℕ) (r : Result ℤ DocketFault) → r ≡ schedule_answer b vs → IfOk r (λ v. (right_count 4 (length b.columns) vs ≡ true) × SchedulePasses b (quantities vs) v)
-answer_passes b kept vs (Ok v) e = accepted_passes b kept vs v (sym e)
-answer_passes b kept vs (Err f) e = tt
+-- so is what it says of acceptance
+module _ (b : Lists) (vs : List ℕ) (r : Result ℤ DocketFault) (e : r ≡ schedule_answer b vs) where
+  pub answer_passes : sound b ≡ true → MatchResult r (λ v. (right_count 4 (length b.columns) vs ≡ true) × SchedulePasses b (quantities vs) v) (λ _. Unit {0})
+  answer_passes kept = by r e
+    where
+      by : (s : Result ℤ DocketFault) → s ≡ schedule_answer b vs → MatchResult s (λ v. (right_count 4 (length b.columns) vs ≡ true) × SchedulePasses b (quantities vs) v) (λ _. Unit {0})
+      by (Ok v) e = accepted_passes b kept vs v (sym e)
+      by (Err f) e = tt
 
-pub answer_accepts : (b : Lists) (vs : List ℕ) (r : Result ℤ DocketFault) → r ≡ schedule_answer b vs → (v : ℤ) → right_count 4 (length b.columns) vs ≡ true → SchedulePasses b (quantities vs) v → r ≡ Ok v
-answer_accepts b vs r e v count p = e ∙ passes_accepted b vs v count p
+  pub answer_accepts : (v : ℤ) → right_count 4 (length b.columns) vs ≡ true → SchedulePasses b (quantities vs) v → r ≡ Ok v
+  answer_accepts v count p = e ∙ passes_accepted b vs v count p
+
+  pub answered : sound b ≡ true → record { answer : r ≡ schedule_answer b vs; passes : MatchResult r (λ v. (right_count 4 (length b.columns) vs ≡ true) × SchedulePasses b (quantities vs) v) (λ _. Unit {0}); accepts : (v : ℤ) → right_count 4 (length b.columns) vs ≡ true → SchedulePasses b (quantities vs) v → r ≡ Ok v }
+  answered kept = record { answer = e; passes = answer_passes kept; accepts = answer_accepts }
 
 -- the answer where the count is right, by the first check that fails
 module _ (b : Lists) (vs : List ℕ) (count : right_count 4 (length b.columns) vs ≡ true) where

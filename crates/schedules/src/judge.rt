@@ -8,13 +8,7 @@ use crate::limit::check_columns;
 use crate::price::{net_benefit, reached};
 use books::book::Book;
 use certificates::fault::DocketFault;
-
-/// Whether the bytes divide by four, and are so many numbers.
-fn is_counted(values: &[u8], count: usize) -> bool
-    ensures { result ≡ right_count 4 count values.now }
-{
-    values.len() % 4 == 0 && values.len() / 4 == count
-}
+use certificates::value::{Quantities, Quantity, are_counted};
 
 /// The net benefit of a schedule that passes every check, or the fault of the first that fails:
 /// the bytes divide by four, one number a column, limits, sides, and the net benefit within ±10^13.
@@ -25,11 +19,11 @@ pub fn judge_schedule<B: Book>(book: &B, values: &[u8]) -> Result<i64, DocketFau
         (λ _. Unit {0}) }
     ensures accepts { (v : ℤ) → right_count 4 (length (B.Book.meaning book.now).columns) values.now ≡ true → SchedulePasses (B.Book.meaning book.now) (quantities values.now) v → result ≡ Ok v }
 {
-    if !is_counted(values, book.column_count()) {
+    if !are_counted::<Quantity>(values, book.column_count()) {
         return Err(DocketFault::ValueCount);
     }
+    let values = Quantities::new(values);
     check_columns(book, values)?;
     check_rows(book, values)?;
-    let figure = net_benefit(book, values);
-    reached(figure)
+    reached(net_benefit(book, values))
 }

@@ -1,4 +1,6 @@
-use Rattle.std.proofs.Common.{◌∙◌, rules}
+use Rattle.std.proofs.Common.{ap, ◌∙◌, rules}
+use Rattle.certificates.specs.Values.{multipliers}
+use Rattle.certificates.specs.Checks.{judged_set}
 use Rattle.multipliers.proofs.Laws.{counted, miscounted, answer_passes, passes_accepted}
 use Rattle.multipliers.proofs.judge.judge_set.Goals as goal
 
@@ -6,7 +8,8 @@ pub returns : goal.returns
 returns g c =
     let b = g.B.Book.meaning c.args.book.now in
     let vs = c.args.values.now in
-    let is = counted b vs c.row_count.result c.judge_multipliers.result c.row_count.ensures c.if-not-is_right_count.ensures c.judge_multipliers.ensures.answer in
+    let judged = c.judge_multipliers.ensures.answer ∙ ap (λ l. judged_set b (multipliers l)) c.new.ensures in
+    let is = counted b vs c.row_count.result c.judge_multipliers.result c.row_count.ensures c.if-not-are_counted.ensures judged in
     record {
       answer = is;
       same = c.judge_multipliers.ensures.same;
@@ -14,9 +17,9 @@ returns g c =
       accepts = λ v count passes. is ∙ passes_accepted b vs v count passes;
     }
 
-pub returns-then-not-is_right_count : goal.returns-then-not-is_right_count
-returns-then-not-is_right_count g c =
+pub returns-then-not-are_counted : goal.returns-then-not-are_counted
+returns-then-not-are_counted g c =
     let b = g.B.Book.meaning c.args.book.now in
     let vs = c.args.values.now in
-    let is = miscounted b vs c.row_count.result c.row_count.ensures c.if-not-is_right_count.ensures in
+    let is = miscounted b vs c.row_count.result c.row_count.ensures c.if-not-are_counted.ensures in
     record { answer = is; same = search rules; passes = tt; accepts = λ v count passes. is ∙ passes_accepted b vs v count passes }

@@ -1,7 +1,7 @@
 use Rattle.std.proofs.Common.{Err, ap, ◌∙◌, w64, SFits, rules}
 use Rattle.std.proofs.lemmas.Result.{err_from_is_err_and}
 use Rattle.std.proofs.lemmas.Int.{to_z-of_z}
-use Rattle.schedules.proofs.Verdicts.{answer_passes, answer_accepts, columns_refuse, rows_refuse, benefit_answers}
+use Rattle.schedules.proofs.Verdicts.{answered, columns_refuse, rows_refuse, benefit_answers}
 use Rattle.schedules.proofs.judge.judge_schedule.Goals as goal
 
 pub returns-in_err-check_columns : goal.returns-in_err-check_columns
@@ -9,27 +9,24 @@ returns-in_err-check_columns g c =
     let b = g.B.Book.meaning c.args.book.now in
     let vs = c.args.values.now in
     let p = err_from_is_err_and c.from_residual.result c.from_residual.ensures.1 in
-    let refused = columns_refuse b vs (search rules) _ c.in_err-check_columns.ensures in
-    let answer = p.1 ∙ ap Err p.2 ∙ refused in
-    record { answer = answer; passes = answer_passes b (g.met.B.Book.kept _) vs _ answer; accepts = answer_accepts b vs _ answer }
+    let refused = columns_refuse b vs (search rules) _ (rw c.new-values.ensures at c.in_err-check_columns.ensures) in
+    answered b vs _ (p.1 ∙ ap Err p.2 ∙ refused) (g.met.B.Book.kept _)
 
 pub returns-in_err-check_rows : goal.returns-in_err-check_rows
 returns-in_err-check_rows g c =
     let b = g.B.Book.meaning c.args.book.now in
     let vs = c.args.values.now in
-    let limits = c.in_ok-check_columns.ensures in
     let p = err_from_is_err_and c.from_residual-in_err-check_rows.result c.from_residual-in_err-check_rows.ensures.1 in
-    let refused = rows_refuse b vs (search rules) _ limits _ c.in_err-check_rows.ensures in
-    let answer = p.1 ∙ ap Err p.2 ∙ refused in
-    record { answer = answer; passes = answer_passes b (g.met.B.Book.kept _) vs _ answer; accepts = answer_accepts b vs _ answer }
+    let limits = rw c.new-values.ensures at c.in_ok-check_columns.ensures in
+    let refused = rows_refuse b vs (search rules) _ limits _ (rw c.new-values.ensures at c.in_err-check_rows.ensures) in
+    answered b vs _ (p.1 ∙ ap Err p.2 ∙ refused) (g.met.B.Book.kept _)
 
 pub returns : goal.returns
 returns g c =
     let b = g.B.Book.meaning c.args.book.now in
     let vs = c.args.values.now in
-    let fits : SFits w64 c.net_benefit-figure.result = search rules in
-    let limits = c.in_ok-check_columns.ensures in
-    let sides = c.in_ok-check_rows.ensures in
-    let is = to_z-of_z w64 _ fits ∙ c.net_benefit-figure.ensures in
-    let answer = c.reached.ensures ∙ benefit_answers b vs (search rules) _ limits _ sides _ is in
-    record { answer = answer; passes = answer_passes b (g.met.B.Book.kept _) vs _ answer; accepts = answer_accepts b vs _ answer }
+    let fits : SFits w64 c.net_benefit.result = search rules in
+    let limits = rw c.new-values.ensures at c.in_ok-check_columns.ensures in
+    let sides = rw c.new-values.ensures at c.in_ok-check_rows.ensures in
+    let figure = to_z-of_z w64 _ fits ∙ rw c.new-values.ensures at c.net_benefit.ensures in
+    answered b vs _ (c.reached.ensures ∙ benefit_answers b vs (search rules) _ limits _ sides _ figure) (g.met.B.Book.kept _)

@@ -1,63 +1,43 @@
-use Rattle.std.proofs.Common.{◌≡◌, ◌+◌, ◌*◌, ◌<◌, ◌≤◌, length, drop, sym, ap, ◌∙◌, subst, arith, w32, SFits, rules}
-use Rattle.std.specs.List.{slice_get}
+use Rattle.std.proofs.Common.{[], ◌∷◌, ◌++◌, ◌*ℤ◌, length, drop, w32, w64, SFits, to_z, sym, ap, ◌∙◌, arith, rules}
+use Rattle.std.specs.List.{zip}
 use Rattle.std.proofs.lemmas.Int.{to_z-of_z}
-use Rattle.books.specs.Schedules.{benefit}
-use Rattle.books.proofs.Sounds.{Within, sound_parts}
-use Rattle.schedules.specs.Turns.{gain_by}
-use Rattle.schedules.proofs.Magnitudes.{more_fits, more_is, more_within}
-use Rattle.schedules.proofs.Scans.{benefit_end}
-use Rattle.schedules.proofs.Totals.{sum_goes, sum_ends, gain_small, limits_more, benefit_more}
-use Rattle.schedules.proofs.Verdicts.{count_is}
+use Rattle.std.proofs.lemmas.List.{length_push}
+use Rattle.std.proofs.lemmas.Slice.Zip.{length-zip}
+use Rattle.std.proofs.lemmas.Iterator.{YieldsList-from_zip}
+use Rattle.books.proofs.Sounds.{sound_parts}
+use Rattle.certificates.specs.Values.{quantities}
+use Rattle.certificates.proofs.Roads.{columns_road, elements_road, left_more, left_few, left_none}
+use Rattle.schedules.proofs.Magnitudes.{Turned, sum_turn, sum_ends}
+use Rattle.schedules.proofs.Scans.{gains, SmallGain, gains_small, benefit_pairs, all_front}
 use Rattle.schedules.proofs.price.net_benefit.Given as given
 use Rattle.schedules.proofs.price.net_benefit.Goals as goal
 
-gain_is : (g : given.Over) (c : goal.After-gain-sum g) → c.gain-sum.result ≡ gain_by (slice_get (g.B.Book.meaning c.args.book.now).columns c.loop-value.j) c.in-Some.value
-gain_is g c =
-    let fits : SFits w32 c.in-Some.value = search rules in
-    c.gain-sum.ensures ∙ ap (gain_by (slice_get (g.B.Book.meaning c.args.book.now).columns c.loop-value.j)) (to_z-of_z w32 _ fits)
-
-gain_near : (g : given.Over) (c : goal.After-gain-sum g) → Within 200000000000000 c.gain-sum.result
-gain_near g c =
+turn : (g : given.Over) (c : goal.After-product-sum g) → Turned 200000000000000 (length c.loop-column.yielded) (gains (zip (g.B.Book.meaning c.args.book.now).columns (quantities c.args.values.bytes.now))) (gains (drop (length (c.loop-column.yielded ++ (c.in-Some.column, c.in-Some.value) ∷ [])) (zip (g.B.Book.meaning c.args.book.now).columns (quantities c.args.values.bytes.now)))) (to_z w64 c.loop-column.sum-bits) c.product-sum.result
+turn g c =
     let b = g.B.Book.meaning c.args.book.now in
+    let xs = quantities c.args.values.bytes.now in
+    let loop = c.loop-column in
+    let fits : SFits w32 c.into.result = search rules in
     let sound = sound_parts b (g.met.B.Book.kept c.args.book.now) in
-    let small = gain_small b.columns sound.columns c.loop-value.j _ _ _ c.loop-value.invariant.1 c.in-Some.ensures.0 in
-    subst (Within 200000000000000) (sym (gain_is g c)) small
-
-few : (g : given.Over) (c : goal.After-gain-sum g) → c.loop-value.j < 4000
-few g c =
-    let b = g.B.Book.meaning c.args.book.now in
-    let most = (sound_parts b (g.met.B.Book.kept c.args.book.now)).few_columns in
-    let left = c.in-Some.ensures.1 in
-    let sofar = c.loop-value.invariant.0 in
-    let count = count_is (length b.columns) c.args.values.now c.requires.count in
-    omega arith
+    let road = YieldsList-from_zip {s = c.into_iter-column-iterator.result} (columns_road g.B.Book.meaning c.args.book.now (cc) (cc)) (elements_road quantities c.args.values.bytes.now (cc)) in
+    let front = left_more road loop.yielded loop.column-iterator loop.yielded_by _ c.next.new.self (c.in-Some.column, c.in-Some.value) c.in-Some.is c.next.ensures.steps in
+    let below = left_few road loop.yielded loop.column-iterator loop.yielded_by _ c.next.new.self (c.in-Some.column, c.in-Some.value) c.in-Some.is c.next.ensures.steps in
+    let pairs = length-zip b.columns xs in
+    let few = sound.few_columns in
+    let price : SFits w32 c.in-Some.column.price = search rules in
+    let near = all_front SmallGain (zip b.columns xs) _ (length loop.yielded) _ (gains_small 0 b.columns xs sound.columns c.requires) front in
+    sum_turn 200000000000000 (length loop.yielded) (omega arith) loop.invariant.2 _ _ _ near (ap gains front) ((simp to_z-of_z at c.product-sum.ensures) ∙ ap (λ v. c.in-Some.column.price *ℤ v) c.into.ensures)
 
 pub overflow_add-sum : goal.overflow_add-sum
-overflow_add-sum g c =
-    let h = few g c in
-    more_fits 200000000000000 c.loop-value.j (omega arith) _ _ c.loop-value.invariant.3 (gain_near g c)
+overflow_add-sum g c = (turn g c).fits
 
-pub loop-value-preserved : goal.loop-value-preserved
-loop-value-preserved g c =
-    let b = g.B.Book.meaning c.args.book.now in
-    let sound = sound_parts b (g.met.B.Book.kept c.args.book.now) in
-    let j = c.loop-value.j in
-    let inv = c.loop-value.invariant in
-    let front = c.in-Some.ensures in
-    let sofar = inv.0 in
-    let left = front.1 in
-    let h = few g c in
-    let most : 200000000000000 * j + 200000000000000 ≤ 1000000000000000000 = omega arith in
-    let next = more_is 200000000000000 j most _ _ inv.3 (gain_near g c) in
-    let step = benefit_more b.columns sound.columns j _ _ _ inv.1 front.0 in (
-      omega arith,
-      limits_more b.columns sound.columns j _ _ _ inv.1 front.0,
-      sum_goes _ _ _ _ _ _ _ inv.2 step (gain_is g c) next,
-      subst (Within (200000000000000 * (j + 1))) (sym next) (more_within 200000000000000 j most _ _ inv.3 (gain_near g c)),
-    )
+pub loop-column-preserved : goal.loop-column-preserved
+loop-column-preserved g c = ((tt, tt), tt, (turn g c).next _ (length_push c.loop-column.yielded _))
 
 pub returns : goal.returns
 returns g c =
-    let cs = (g.B.Book.meaning c.args.book.now).columns in
-    let j = c.loop-value.j in
-    sum_ends _ _ _ c.loop-value.invariant.2 (ap (benefit (drop j cs)) c.in_default.ensures.1 ∙ benefit_end (drop j cs))
+    let b = g.B.Book.meaning c.args.book.now in
+    let xs = quantities c.args.values.bytes.now in
+    let loop = c.loop-column in
+    let road = YieldsList-from_zip {s = c.into_iter-column-iterator.result} (columns_road g.B.Book.meaning c.args.book.now (cc) (cc)) (elements_road quantities c.args.values.bytes.now (cc)) in
+    sum_ends loop.invariant.2 (ap gains (left_none road loop.yielded loop.column-iterator loop.yielded_by _ c.next.new.self c.in-None.is c.next.ensures.steps)) ∙ sym (benefit_pairs b.columns xs)

@@ -1,0 +1,18 @@
+use Rattle.std.proofs.Common.{◌≡◌, length, inl, ap, arith, w64, to_z, of_z}
+use Rattle.books.proofs.Sounds.{sound_parts}
+use Rattle.certificates.proofs.Roads.{columns_left}
+use Rattle.multipliers.specs.Costs.{table_total}
+use Rattle.multipliers.proofs.costs.Costs.add_columns.Goals as goal
+
+pub loop-j-init : goal.loop-j-init
+loop-j-init g c =
+    let it = c.into_iter-j-iterator.result in
+    let few = (sound_parts _ (g.met.B.Book.kept c.args.book.now)).few_columns in
+    let whole = columns_left g.B.Book.meaning c.args.book.now it.iter (cc) (cc) in
+    let none : it.count ≡ 0 = cc in
+    let room = ap length whole in (
+      (tt, tt, inl (omega (arith, few, room))),
+      tt,
+      omega (arith, few, room),
+      λ i. table_total (none i) (whole i) c.args.self.now (to_z w64 (of_z w64 c.args.total)),
+    )

@@ -1,0 +1,12 @@
+use Rattle.std.proofs.Common.{rules}
+use Rattle.certificates.specs.Checks.{multiplier_reaches}
+use Rattle.certificates.specs.Values.{multipliers}
+use Rattle.multipliers.proofs.Passes.{sizes_checked}
+use Rattle.multipliers.proofs.rows.check_sizes.Goals as goal
+
+pub returns : goal.returns
+returns g c =
+    let b = g.B.Book.meaning c.args.book.now in
+    sizes_checked b (multipliers c.args.values.bytes.now) c.check_rows.result c.map_err.result _
+    (c.check_rows.ensures (λ _ y. multiplier_reaches y) (λ r y t fits p. search rules))
+    (λ e f p. search rules) c.map_err.ensures.cases
