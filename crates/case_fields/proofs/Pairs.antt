@@ -31,9 +31,6 @@ part_read of t x y h k e f =
     ∙ ap (map of) (front_pair x y t h k)
     ∙ (λ i. of (sym (to_z-of_z w32 x h) i, sym (to_z-of_z w32 y k) i) ∷ map of (pairs_in t))
 
-pub part_none : {X : Type 0} (of : ℤ × ℤ → X) (bs : List ℕ) → length bs < 8 → map of (pairs_in bs) ≡ []
-part_none of bs h = ap (map of) (pairs_none bs h)
-
 pub length-parts : {X : Type 0} (of : ℤ × ℤ → X) (bs : List ℕ) → length bs / 8 ≡ length (map of (pairs_in bs))
 length-parts of bs = sym ((held_parts of).count bs)
 

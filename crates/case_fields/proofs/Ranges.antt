@@ -1,32 +1,21 @@
 -- The ranges of blocks and of points, one after the other.
-use Rattle.std.proofs.Common.{◌≡◌, ℕ, ◌+◌, ◌<◌, Bool, true, false, Some, None, Option, List, [], ◌∷◌, ℤ, pos, ◌+ℤ◌, nat_abs, ◌≤ℤ◌, sym, refl, ap, ◌∙◌, arith, w32, SFits, to_z, of_z}
-use lib.IntN.{+ℤ_assoc, +ℤ_idr, +ℤ_idl}
+use Rattle.std.proofs.Common.{◌≡◌, ℕ, ◌+◌, ◌<◌, Bool, true, false, Some, None, Option, List, [], ◌∷◌, ℤ, pos, ◌+ℤ◌, nat_abs, ◌≤ℤ◌, sym, refl, ap, ◌∙◌, arith}
+use lib.IntN.{+ℤ_assoc, +ℤ_idr}
 use lib.Signed.{le_z}
-use Rattle.std.proofs.lemmas.Int.{ints, to_z-of_z}
+use Rattle.std.proofs.lemmas.Int.{ints}
 use Rattle.case_fields.specs.declared.part.Block.{Block}
 use Rattle.case_fields.specs.declared.part.Point.{Point}
 use Rattle.case_fields.specs.Kinds.{both}
-use Rattle.case_fields.specs.Tests.{is_quantity, is_block_price, each_block, sum_of_maxima, blocks_fit, each_point, above, points_fit}
-
--- a number that was stored is the number
-kept : {X : Type 0} (f : ℤ → X) (z : ℤ) → SFits w32 z → f (to_z w32 (of_z w32 z)) ≡ f z
-kept f z h = ap f (to_z-of_z w32 z h)
+use Rattle.case_fields.specs.Tests.{is_quantity, is_block_price, each_block, sum_of_maxima, each_point, above, points_fit}
 
 -- both of two tests that passed together
 pub parts : (x y : Bool) → both x y ≡ true → (x ≡ true) × (y ≡ true)
 parts true y h = (refl, h)
 parts false y h = absurd (let z : ◌≡◌ {A = ℕ} 0 1 = cc in omega arith)
 
-both_false : (x : Bool) → both x false ≡ false
-both_false true = refl
-both_false false = refl
-
 -- whether blocks fit after others whose maxima sum to t
 abbrev pub blocks_fit_after : ℕ → List Block → Bool
 blocks_fit_after t bs = both (each_block bs) (le_z (pos t +ℤ sum_of_maxima bs) (pos 1000000))
-
-pub blocks_start : (bs : List Block) → blocks_fit bs ≡ blocks_fit_after 0 bs
-blocks_start bs = ap (λ z. both (each_block bs) (le_z z (pos 1000000))) (sym (+ℤ_idl (sum_of_maxima bs)))
 
 abbrev is_block : Block → Bool
 is_block b = both (is_block_price b.price) (is_quantity b.maximum)

@@ -1,5 +1,5 @@
 -- The answer to a call is one, and is an acceptance exactly when the call is to be accepted.
-use Rattle.std.proofs.Common.{◌≡◌, ℕ, true, List, length, ℤ, Ok, Err, Result, sym, refl, ap, ◌∙◌, subst, inl, inr, arith}
+use Rattle.std.proofs.Common.{◌≡◌, ℕ, true, List, length, ℤ, Ok, Err, Result, sym, refl, ap, ◌∙◌, subst, inl, inr}
 use Rattle.fields.specs.Certificates.{IsCertificate, certificate_checks}
 use Rattle.fields.specs.declared.certificate.CertificateKind.{CertificateKind}
 use Rattle.fields.specs.declared.certificate.CertificateKind.TheVariants.{Schedule, Multipliers}
@@ -58,7 +58,7 @@ module _ (b : Lists) (law : Laws b) where
   accepted_by Multipliers bs label v j = inr (set_accepted bs label v j)
 
   accepted_if : (c : Laid) (v : ℤ) (r : Outcome) → Answered b c r → r ≡ Ok v → (label : ℕ) × AcceptedCall b c label v
-  accepted_if c v r (inl p) e = absurd (let f = p.answer in let z : ◌≡◌ {A = ℕ} 0 1 = cc in omega arith)
+  accepted_if c v r (inl p) e = let f = p.answer in cc
   accepted_if c v r (inr p) e =
       (p.0, accepted_by c.kind c.bytes p.0 v (record { values = p.1.values; field = p.1.field; answer = sym e ∙ p.1.answer }))
 
@@ -92,11 +92,11 @@ module _ (b : Lists) (law : Laws b) where
   pub never_accepted : (c : Laid) (f : DocketFault) → Answered b c (Err f) → (label : ℕ) (v : ℤ) → AcceptedCall b c label v → ⊥
   never_accepted c f r label v a =
       let e : ◌≡◌ {A = Outcome} (Err f) (Ok v) = answered_one b c (Err f) (Ok v) r (answered_call c label v a) in
-      let z : ◌≡◌ {A = ℕ} 0 1 = cc in omega arith
+      cc
 
   -- a schedule is no set
   pub never_other : (k : CertificateKind) (bs : List ℕ) (l m : ℕ) (v w : ℤ) → AcceptedSchedule b (laid k bs) l v → AcceptedSet b (laid k bs) m w → ⊥
-  never_other k bs l m v w p q = let e = p.kind in let f = q.kind in let z : ◌≡◌ {A = ℕ} 0 1 = cc in omega arith
+  never_other k bs l m v w p q = let e = p.kind in let f = q.kind in cc
 
   -- ---- the right verdict
 

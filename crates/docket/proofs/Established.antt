@@ -83,16 +83,16 @@ set_caps b kept c l v a =
 
 module _ (b : Lists) (kept : sound b ≡ true) (h : List Laid) where
   lowest_caps : (lo : Option ℕ) (vo : Option ℤ) → Lowest b h lo vo → (v : ℤ) → vo ≡ Some v → Caps b v
-  lowest_caps None None n v e = absurd (let z : ◌≡◌ {A = ℕ} 0 1 = cc in omega arith)
+  lowest_caps None None n v e = cc
   lowest_caps None (Some w) n v e = absurd n
   lowest_caps (Some l) None n v e = absurd n
   lowest_caps (Some l) (Some w) f v e =
       let q : w ≡ v = cc in subst (Caps b) q (set_caps b kept f.call l w f.accepted)
 
   gap_holds : (lo mo : Option ℕ) (vo wo : Option ℤ) → Best b h lo vo → Lowest b h mo wo → (g : ℤ) → gap_of vo wo ≡ Some g → pos 0 ≤ℤ g
-  gap_holds lo mo None None p q g e = absurd (let z : ◌≡◌ {A = ℕ} 0 1 = cc in omega arith)
-  gap_holds lo mo None (Some w) p q g e = absurd (let z : ◌≡◌ {A = ℕ} 0 1 = cc in omega arith)
-  gap_holds lo mo (Some v) None p q g e = absurd (let z : ◌≡◌ {A = ℕ} 0 1 = cc in omega arith)
+  gap_holds lo mo None None p q g e = cc
+  gap_holds lo mo None (Some w) p q g e = cc
+  gap_holds lo mo (Some v) None p q g e = cc
   gap_holds None mo (Some v) (Some w) p q g e = absurd p
   gap_holds (Some l) mo (Some v) (Some w) p q g e =
       let is : w -ℤ K *ℤ v ≡ g = cc in
@@ -114,9 +114,9 @@ module _ (b : Lists) (kept : sound b ≡ true) (h : List Laid) where
 -- ---- the gap along a longer history
 
 shrinks : (b : Lists) (h more : List Laid) (lo mo lo' mo' : Option ℕ) (vo wo vo' wo' : Option ℤ) → Best b h lo vo → Lowest b h mo wo → Best b (h ++ more) lo' vo' → Lowest b (h ++ more) mo' wo' → Shrinks (gap_of vo wo) (gap_of vo' wo')
-shrinks b h more lo mo lo' mo' None None vo' wo' p q p' q' f e = absurd (let z : ◌≡◌ {A = ℕ} 0 1 = cc in omega arith)
-shrinks b h more lo mo lo' mo' None (Some w) vo' wo' p q p' q' f e = absurd (let z : ◌≡◌ {A = ℕ} 0 1 = cc in omega arith)
-shrinks b h more lo mo lo' mo' (Some v) None vo' wo' p q p' q' f e = absurd (let z : ◌≡◌ {A = ℕ} 0 1 = cc in omega arith)
+shrinks b h more lo mo lo' mo' None None vo' wo' p q p' q' f e = cc
+shrinks b h more lo mo lo' mo' None (Some w) vo' wo' p q p' q' f e = cc
+shrinks b h more lo mo lo' mo' (Some v) None vo' wo' p q p' q' f e = cc
 shrinks b h more None mo lo' mo' (Some v) (Some w) vo' wo' p q p' q' f e = absurd p
 shrinks b h more (Some l) None lo' mo' (Some v) (Some w) vo' wo' p q p' q' f e = absurd q
 shrinks b h more (Some l) (Some m) None mo' (Some v) (Some w) None wo' p q p' q' f e = absurd (stays (AcceptedSchedule b) _ _ h more l v p p')

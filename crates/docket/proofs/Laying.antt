@@ -1,5 +1,5 @@
 -- What a call does to what stands.
-use Rattle.std.proofs.Common.{◌≡◌, ℕ, Bool, true, false, cond, List, [], ◌∷◌, ◌++◌, ℤ, Some, None, Ok, Err, Option, sym, ap, ◌∙◌, subst, inl, inr}
+use Rattle.std.proofs.Common.{◌≡◌, ℕ, ◌⊎◌, Bool, true, false, cond, List, [], ◌∷◌, ◌++◌, ℤ, Some, None, Ok, Err, Option, MatchOption, refl, sym, ap, ◌∙◌, subst, inl, inr}
 use lib.Signed.{lt_z}
 use Rattle.fields.specs.declared.certificate.CertificateKind.{CertificateKind}
 use Rattle.fields.specs.declared.certificate.CertificateKind.TheVariants.{Schedule, Multipliers}
@@ -10,11 +10,14 @@ use Rattle.certificates.specs.Steps.{in_reach}
 use Rattle.certificates.specs.Values.{multipliers}
 use Rattle.certificates.specs.declared.fault.DocketFault.{DocketFault}
 use Rattle.docket.specs.declared.standing.Labelled.{Labelled}
-use Rattle.docket.specs.Calls.{Laid, laid, Judged, Answered, AcceptedSchedule, AcceptedSet, RightVerdict}
+use Rattle.docket.specs.Calls.{Laid, laid, Judged, Answered, AcceptedSchedule, AcceptedSet, AcceptedCall, RightVerdict}
 use Rattle.docket.specs.Standings.{StandingOf}
-use Rattle.docket.specs.Labels.{label_in, figure_in, standing_by, greater, lower, best_fits, bound_fits}
+use Rattle.docket.specs.Labels.{label_in, figure_in, standing_by, leader, greater, lower, best_fits, bound_fits}
+use Rattle.docket.specs.declared.standing.Standing.{Standing}
 use Rattle.docket.specs.declared.verdict.Verdict.{Verdict}
-use Rattle.docket.specs.Verdicts.{refusal, verdict_of}
+use Rattle.docket.specs.declared.verdict.Verdict.TheVariants.{Accepted}
+use Rattle.docket.specs.Docketed.{Docketed, docketed, Lays}
+use Rattle.docket.specs.Verdicts.{refusal}
 use Rattle.docket.proofs.Established.{schedule_more, set_more, no_schedule_more, no_set_more, stands}
 use Rattle.docket.proofs.Answering.{schedule_accepted, set_accepted, never_accepted, never_other, right}
 use Rattle.multipliers.proofs.Laws.{figure_reaches}
@@ -37,54 +40,79 @@ lower_fits (Some old) new p q = by (lt_z new.figure old.figure)
     by true = q
     by false = p
 
-module _ (b : Lists) (kept : sound b ≡ true) (bs : List ℕ) where
+-- what stands by a closure that tells which figure is better is what stands by the test that it makes
+pub leader_is : (better : ℤ → ℤ → Bool) (Tells : Labelled → Bool → Type 0) (o : Option Labelled) (new : Labelled) (r : Option Labelled) → ((old : Labelled) (t : Bool) → Tells old t → o ≡ Some old → t ≡ better new.figure old.figure)
+    → MatchOption o (r ≡ Some new) (λ old. (t : Bool) × Tells old t × (r ≡ cond t (Some new) (Some old))) → r ≡ leader better o new
+leader_is better Tells None new r same e = e
+leader_is better Tells (Some old) new r same e = e.2 ∙ ap (λ t. cond t (Some new) (Some old)) (same old e.0 e.1 refl)
+
+-- what stands once a certificate is accepted: p is the best and q the bound
+abbrev pub Next : CertificateKind → Option Labelled → Option Labelled → Labelled → Option Labelled → Option Labelled → Type 0
+Next k best bound new p q =
+    ((k ≡ Schedule) × (p ≡ greater best new) × (q ≡ bound)) ⊎ ((k ≡ Multipliers) × (p ≡ best) × (q ≡ lower bound new))
+
+module _ {X : Type 0} (m : X → Lists) (x : X) (kept : sound (m x) ≡ true) (bs : List ℕ) (k : CertificateKind) where
   -- a call that is refused
-  pub refused_right : (k : CertificateKind) (f : DocketFault) → Answered b (laid k bs) (Err f) → (w : Verdict) → w ≡ refusal f → RightVerdict b (laid k bs) w
-  refused_right k f a w e = subst (RightVerdict b (laid k bs)) (sym e) (right b (laws b kept) (laid k bs) (Err f) a)
+  module _ (f : DocketFault) (told : Answered (m x) (laid k bs) (Err f)) where
+    never : (l : ℕ) (v : ℤ) → AcceptedCall (m x) (laid k bs) l v → ⊥
+    never = never_accepted (m x) (laws (m x) kept) (laid k bs) f told
 
-  module _ (best bound : Option Labelled) where
-    pub refused_stands : (k : CertificateKind) (f : DocketFault) → Answered b (laid k bs) (Err f) → (h : List Laid) → StandingOf b h (standing_by best bound) → StandingOf b (h ++ laid k bs ∷ []) (standing_by best bound)
-    refused_stands k f a h s =
-        let never = never_accepted b (laws b kept) (laid k bs) f a in
-        stands b kept (h ++ laid k bs ∷ []) best bound
-        (no_schedule_more b h (laid k bs) (label_in best) (figure_in best) (λ l v p. never l v (inl p)) s.best)
-        (no_set_more b h (laid k bs) (label_in bound) (figure_in bound) (λ l v p. never l v (inr p)) s.lowest)
+    still : (s : Standing) (h : List Laid) → StandingOf (m x) h s → StandingOf (m x) (h ++ laid k bs ∷ []) s
+    still s h e = record {
+      best = no_schedule_more (m x) h (laid k bs) s.best_label s.best (λ l v p. never l v (inl p)) e.best;
+      lowest = no_set_more (m x) h (laid k bs) s.bound_label s.bound (λ l v p. never l v (inr p)) e.lowest;
+      caps = e.caps;
+      gap = e.gap;
+      not_negative = e.not_negative;
+    }
 
-  -- a schedule that is accepted
-  module _ (new : Labelled) (j : Judged b (laid Schedule bs) new.label (Ok new.figure)) where
-    accepted : AcceptedSchedule b (laid Schedule bs) new.label new.figure
-    accepted = schedule_accepted b (laws b kept) bs new.label new.figure j
+    pub refused_lays : (w : Verdict) (s : Standing) (before : Docketed X) → w ≡ refusal f → docketed x s ≡ before → Lays m (laid k bs) w before (docketed x s)
+    refused_lays w s before e is =
+        subst (λ (d : Docketed X). Lays m (laid k bs) w d (docketed x s)) is
+        (record {
+          verdict = subst (RightVerdict (m x) (laid k bs)) (sym e) (right (m x) (laws (m x) kept) (laid k bs) (Err f) told);
+          history = still s;
+          book = refl;
+          refused = λ _. refl;
+        })
 
-    pub schedule_right : (z : ℤ) → z ≡ new.figure → RightVerdict b (laid Schedule bs) (verdict_of (Ok z))
-    schedule_right z e =
-        subst (λ (v : ℤ). RightVerdict b (laid Schedule bs) (verdict_of (Ok v))) (sym e) (right b (laws b kept) (laid Schedule bs) (Ok new.figure) (inr (new.label, j)))
+  -- a call that is accepted
+  module _ (new : Labelled) (told : Judged (m x) (laid k bs) new.label (Ok new.figure)) where
+    schedule_told : k ≡ Schedule → AcceptedSchedule (m x) (laid k bs) new.label new.figure
+    schedule_told e =
+        subst (λ (c : CertificateKind). AcceptedSchedule (m x) (laid c bs) new.label new.figure) (sym e)
+        (schedule_accepted (m x) (laws (m x) kept) bs new.label new.figure (subst (λ (c : CertificateKind). Judged (m x) (laid c bs) new.label (Ok new.figure)) e told))
 
-    pub schedule_fits : (best o : Option Labelled) → o ≡ greater best new → best_fits best ≡ true → best_fits o ≡ true
-    schedule_fits best o e p = ap best_fits e ∙ greater_fits best new p accepted.passes.reach
+    set_told : k ≡ Multipliers → AcceptedSet (m x) (laid k bs) new.label new.figure
+    set_told e =
+        subst (λ (c : CertificateKind). AcceptedSet (m x) (laid c bs) new.label new.figure) (sym e)
+        (set_accepted (m x) (laws (m x) kept) bs new.label new.figure (subst (λ (c : CertificateKind). Judged (m x) (laid c bs) new.label (Ok new.figure)) e told))
 
-    pub schedule_stands : (best bound o : Option Labelled) → o ≡ greater best new → (h : List Laid) → StandingOf b h (standing_by best bound) → StandingOf b (h ++ laid Schedule bs ∷ []) (standing_by o bound)
-    schedule_stands best bound o e h s =
-        subst (λ (x : Option Labelled). StandingOf b (h ++ laid Schedule bs ∷ []) (standing_by x bound)) (sym e)
-        (stands b kept (h ++ laid Schedule bs ∷ []) (greater best new) bound
-        (schedule_more b h (laid Schedule bs) best new accepted s.best)
-        (no_set_more b h (laid Schedule bs) (label_in bound) (figure_in bound) (λ m w q. never_other b (laws b kept) Schedule bs new.label m new.figure w accepted q) s.lowest))
+    module _ (best bound p q : Option Labelled) where
+      pub next_fits : (best_fits best ≡ true) × (bound_fits bound ≡ true) → Next k best bound new p q → (best_fits p ≡ true) × (bound_fits q ≡ true)
+      next_fits fits (inl (e, s, t)) =
+          (ap best_fits s ∙ greater_fits best new fits.0 (schedule_told e).passes.reach, ap bound_fits t ∙ fits.1)
+      next_fits fits (inr (e, s, t)) =
+          let a = set_told e in
+          (ap best_fits s ∙ fits.0, ap bound_fits t ∙ lower_fits bound new fits.1 (figure_reaches (m x) (multipliers a.values) new.figure a.passes))
 
-  -- a set that is accepted
-  module _ (new : Labelled) (j : Judged b (laid Multipliers bs) new.label (Ok new.figure)) where
-    set_is : AcceptedSet b (laid Multipliers bs) new.label new.figure
-    set_is = set_accepted b (laws b kept) bs new.label new.figure j
+      next_stands : Next k best bound new p q → (h : List Laid) → StandingOf (m x) h (standing_by best bound) → StandingOf (m x) (h ++ laid k bs ∷ []) (standing_by p q)
+      next_stands (inl (e, s, t)) h stood =
+          let a = schedule_told e in
+          rw (s, t) (stands (m x) kept (h ++ laid k bs ∷ []) (greater best new) bound
+          (schedule_more (m x) h (laid k bs) best new a stood.best)
+          (no_set_more (m x) h (laid k bs) (label_in bound) (figure_in bound) (λ l v b. never_other (m x) (laws (m x) kept) k bs new.label l new.figure v a b) stood.lowest))
+      next_stands (inr (e, s, t)) h stood =
+          let a = set_told e in
+          rw (s, t) (stands (m x) kept (h ++ laid k bs ∷ []) best (lower bound new)
+          (no_schedule_more (m x) h (laid k bs) (label_in best) (figure_in best) (λ l v b. never_other (m x) (laws (m x) kept) k bs l new.label v new.figure b a) stood.best)
+          (set_more (m x) h (laid k bs) bound new a stood.lowest))
 
-    pub set_right : (z : ℤ) → z ≡ new.figure → RightVerdict b (laid Multipliers bs) (verdict_of (Ok z))
-    set_right z e =
-        subst (λ (v : ℤ). RightVerdict b (laid Multipliers bs) (verdict_of (Ok v))) (sym e) (right b (laws b kept) (laid Multipliers bs) (Ok new.figure) (inr (new.label, j)))
-
-    pub set_fits : (bound o : Option Labelled) → o ≡ lower bound new → bound_fits bound ≡ true → bound_fits o ≡ true
-    set_fits bound o e p =
-        ap bound_fits e ∙ lower_fits bound new p (figure_reaches b (multipliers set_is.values) new.figure set_is.passes)
-
-    pub set_stands : (best bound o : Option Labelled) → o ≡ lower bound new → (h : List Laid) → StandingOf b h (standing_by best bound) → StandingOf b (h ++ laid Multipliers bs ∷ []) (standing_by best o)
-    set_stands best bound o e h s =
-        subst (λ (x : Option Labelled). StandingOf b (h ++ laid Multipliers bs ∷ []) (standing_by best x)) (sym e)
-        (stands b kept (h ++ laid Multipliers bs ∷ []) best (lower bound new)
-        (no_schedule_more b h (laid Multipliers bs) (label_in best) (figure_in best) (λ m w q. never_other b (laws b kept) Multipliers bs m new.label w new.figure q set_is) s.best)
-        (set_more b h (laid Multipliers bs) bound new set_is s.lowest))
+      pub next_lays : (z : ℤ) (before after : Docketed X) → z ≡ new.figure → docketed x (standing_by best bound) ≡ before → after ≡ docketed x (standing_by p q) → Next k best bound new p q → Lays m (laid k bs) (Accepted z) before after
+      next_lays z before after same is gives next =
+          rw (← is, gives, same) (record {
+            verdict = right (m x) (laws (m x) kept) (laid k bs) (Ok new.figure) (inr (new.label, told));
+            history = next_stands next;
+            book = refl;
+            refused = λ e. cc;
+          })

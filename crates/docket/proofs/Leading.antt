@@ -12,7 +12,7 @@ nth_more (y ∷ xs) ys zero x e = e
 nth_more (y ∷ xs) ys (suc k) x e = nth_more xs ys k x e
 
 pub nth_below : {X : Type 0} (xs : List X) (k : ℕ) (x : X) → slice_get xs k ≡ Some x → k < length xs
-nth_below [] k x e = absurd (let z : ◌≡◌ {A = ℕ} 0 1 = cc in omega arith)
+nth_below [] k x e = cc
 nth_below (y ∷ xs) zero x e = omega arith
 nth_below (y ∷ xs) (suc k) x e = let h = nth_below xs k x e in omega arith
 
@@ -23,7 +23,7 @@ nth_last (y ∷ xs) x = nth_last xs x
 -- an element of a list with one more is one of the list, or the last
 pub nth_push : {X : Type 0} (xs : List X) (y : X) (k : ℕ) (x : X) → slice_get (xs ++ y ∷ []) k ≡ Some x → (slice_get xs k ≡ Some x) ⊎ ((k ≡ length xs) × (y ≡ x))
 nth_push [] y zero x e = inr (refl, cc)
-nth_push [] y (suc k) x e = absurd (let z : ◌≡◌ {A = ℕ} 0 1 = cc in omega arith)
+nth_push [] y (suc k) x e = cc
 nth_push (z ∷ xs) y zero x e = inl e
 nth_push (z ∷ xs) y (suc k) x e =
     ⊎_elim inl (λ p. inr (ap suc p.0, p.1)) (nth_push xs y k x e)

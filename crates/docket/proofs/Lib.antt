@@ -4,4 +4,3 @@ pub mod Answering
 pub mod Running
 pub mod Lawful
 pub mod Laying
-pub mod Same

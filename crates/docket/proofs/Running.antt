@@ -1,5 +1,5 @@
 -- A run, call by call.
-use Rattle.std.proofs.Common.{◌≡◌, ℕ, zero, suc, ◌+◌, ◌<◌, ◌≤◌, List, [], ◌∷◌, ◌++◌, map, length, get_or, take, Some, sym, refl, ap, subst, ⊎_elim, arith}
+use Rattle.std.proofs.Common.{◌≡◌, ℕ, zero, suc, ◌+◌, ◌<◌, ◌≤◌, List, [], ◌∷◌, ◌++◌, map, length, get_or, take, Some, sym, refl, ap, ◌∙◌, subst, ⊎_elim, arith}
 use Rattle.std.specs.List.{slice_get}
 use Rattle.std.proofs.lemmas.List.{length-append, map_more, take_all, take-append-le}
 use Rattle.books.specs.Lists.{Lists}
@@ -8,6 +8,7 @@ use Rattle.docket.specs.declared.run.Call.{Call}
 use Rattle.docket.specs.declared.standing.Standing.{Standing}
 use Rattle.docket.specs.declared.verdict.Verdict.{Verdict}
 use Rattle.docket.specs.Calls.{Laid, RightVerdict}
+use Rattle.docket.specs.Docketed.{Docketed, Lays}
 use Rattle.docket.specs.Standings.{StandingOf}
 use Rattle.docket.specs.Runs.{laid_by, RightRun}
 use Rattle.docket.proofs.Leading.{nth_below, nth_push}
@@ -33,8 +34,8 @@ pub record SoFar (b : Lists) (h : List Laid) (ans : List Answer) (s : Standing) 
 pub none_so_far : (b : Lists) (s : Standing) → StandingOf b [] s → SoFar b [] [] s
 none_so_far b s f = record {
   each = refl;
-  verdicts = λ k c a e. absurd (let z : ◌≡◌ {A = ℕ} 0 1 = cc in omega arith);
-  standings = λ k a e. absurd (let z : ◌≡◌ {A = ℕ} 0 1 = cc in omega arith);
+  verdicts = λ k c a e. cc;
+  standings = λ k a e. cc;
   final = f;
 }
 
@@ -80,22 +81,26 @@ whole b h ans s far = record {
 
 -- ---- the turns of the loop over the calls
 
-module _ (b b' : Lists) (cs : List Call) (i : ℕ) (ans : List Answer) (s : Standing) (same : b' ≡ b) where
-  -- one call more: w is its verdict, t stands after it, and u was read
-  pub turn : (d : Call) (new : List Answer) (w : Verdict) (t u : Standing) → i < length cs → SoFar b (map laid_by (take i cs)) ans s
-      → RightVerdict b' (laid_by (get_or cs i d)) w → ((h : List Laid) → StandingOf b' h s → StandingOf b' (h ++ laid_by (get_or cs i d) ∷ []) t)
-      → u ≡ t → new ≡ ans ++ record { verdict = w; standing = u } ∷ [] → SoFar b (map laid_by (take (i + 1) cs)) new t
-  turn d new w t u within far right history read pushed =
-      let c = laid_by (get_or cs i d) in
+module _ {X : Type 0} (m : X → Lists) (x : X) (cs : List Call) (i : ℕ) (ans : List Answer) (d : Docketed X) (same : d.book ≡ x) (far : SoFar (m x) (map laid_by (take i cs)) ans d.standing) where
+  -- one call more: w is its verdict, e the docket after it, and u the standing that was read
+  pub turn : (call : Call) (new : List Answer) (w : Verdict) (e : Docketed X) (u : Standing) → i < length cs → Lays m (laid_by (get_or cs i call)) w d e
+      → u ≡ e.standing → new ≡ ans ++ record { verdict = w; standing = u } ∷ [] → SoFar (m x) (map laid_by (take (i + 1) cs)) new e.standing × (e.book ≡ x)
+  turn call new w e u within lays read pushed =
+      let b = m x in
+      let c = laid_by (get_or cs i call) in
       let h = map laid_by (take i cs) in
+      let is = ap m same in
       let answer : Answer = record { verdict = w; standing = u } in
-      let after = subst (λ (a : Lists). (h : List Laid) → StandingOf a h s → StandingOf a (h ++ c ∷ []) t) same history h far.final in
-      let more = one_more b h ans s far c answer (subst (λ (a : Lists). RightVerdict a c w) same right) (subst (StandingOf b (h ++ c ∷ [])) (sym read) after) in
-      subst (λ (l : List Laid). SoFar b l new t) (sym (map_more laid_by cs i d within))
-      (subst (λ (l : List Answer). SoFar b (h ++ c ∷ []) l t) (sym pushed) (subst (SoFar b (h ++ c ∷ []) (ans ++ answer ∷ [])) read more))
+      let right = subst (λ (a : Lists). RightVerdict a c w) is lays.verdict in
+      let stands = subst (λ (a : Lists). (h : List Laid) → StandingOf a h d.standing → StandingOf a (h ++ c ∷ []) e.standing) is lays.history h far.final in
+      let more = one_more b h ans d.standing far c answer right (subst (StandingOf b (h ++ c ∷ [])) (sym read) stands) in (
+        subst (λ (l : List Laid). SoFar b l new e.standing) (sym (map_more laid_by cs i call within))
+            (subst (λ (l : List Answer). SoFar b (h ++ c ∷ []) l e.standing) (sym pushed) (subst (SoFar b (h ++ c ∷ []) (ans ++ answer ∷ [])) read more)),
+        lays.book ∙ same,
+      )
 
   -- no call is left
-  pub ended : (u : Standing) → length cs ≤ i → SoFar b (map laid_by (take i cs)) ans s → u ≡ s → RightRun b (map laid_by cs) ans u
-  ended u past far read =
-      subst (RightRun b (map laid_by cs) ans) (sym read)
-      (whole b (map laid_by cs) ans s (subst (λ (l : List Call). SoFar b (map laid_by l) ans s) (take_all i cs past) far))
+  pub ended : (u : Standing) → length cs ≤ i → u ≡ d.standing → RightRun (m x) (map laid_by cs) ans u
+  ended u past read =
+      subst (RightRun (m x) (map laid_by cs) ans) (sym read)
+      (whole (m x) (map laid_by cs) ans d.standing (subst (λ (l : List Call). SoFar (m x) (map laid_by l) ans d.standing) (take_all i cs past) far))

@@ -24,15 +24,18 @@ standing_by best bound =
       gap = gap_of (figure_in best) (figure_in bound);
     }
 
+-- what stands after a new figure: the new one if it is the first, or passes the test against what stood
+abbrev pub leader : (ℤ → ℤ → Bool) → Option Labelled → Labelled → Option Labelled
+leader better None new = Some new
+leader better (Some old) new = cond (better new.figure old.figure) (Some new) (Some old)
+
 -- the greater of what stood and a new figure; what stood stays if they are equal
 abbrev pub greater : Option Labelled → Labelled → Option Labelled
-greater None new = Some new
-greater (Some old) new = cond (int_lt old.figure new.figure) (Some new) (Some old)
+greater = leader (λ new old. int_lt old new)
 
 -- the lower of what stood and a new figure; what stood stays if they are equal
 abbrev pub lower : Option Labelled → Labelled → Option Labelled
-lower None new = Some new
-lower (Some old) new = cond (int_lt new.figure old.figure) (Some new) (Some old)
+lower = leader int_lt
 
 -- a best figure, if there is one, is within ±10^13, and a bound within ±2^60
 abbrev pub best_fits : Option Labelled → Bool

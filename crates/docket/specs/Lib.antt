@@ -3,3 +3,5 @@ pub mod Calls
 pub mod Standings
 pub mod Labels
 pub mod Runs
+pub mod Docketed
+pub mod Texts

@@ -2,10 +2,9 @@
 #![tactic(auto)]
 
 pub mod docket;
-mod gap;
 mod judge;
-mod leader;
 pub mod run;
 pub mod standing;
+pub mod text;
 pub mod theorem;
 pub mod verdict;

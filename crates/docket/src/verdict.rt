@@ -1,6 +1,6 @@
 //! What a docket answers to a certificate.
 ghost use Rattle.std.specs.Prelude.{◌≡◌};
-ghost use Rattle.docket.specs.Verdicts.{refusal as refusal_of};
+ghost use Rattle.docket.specs.Verdicts.{refusal};
 
 use books::part::Place;
 use certificates::fault::DocketFault;
@@ -20,13 +20,14 @@ pub enum Verdict {
     },
 }
 
-/// The refusal for a fault.
-pub(crate) fn refusal(fault: DocketFault) -> Verdict
-    ensures { result ≡ refusal_of fault }
-{
-    Verdict::Refused {
-        number: fault.number(),
-        place: fault.place(),
-        clause: fault.clause(),
+impl From<DocketFault> for Verdict {
+    ghost from_gives = { λ f r. r ≡ refusal f };
+
+    fn from(fault: DocketFault) -> Verdict {
+        Verdict::Refused {
+            number: fault.number(),
+            place: fault.place(),
+            clause: fault.clause(),
+        }
     }
 }

@@ -113,7 +113,7 @@ terms_at (t ∷ ts) n from y tab j r e long h =
 
 pub nought_is : (y : ℤ) → is_nought y ≡ true → y ≡ pos 0
 nought_is (pos n) e = ap pos (eqb-true n 0 e)
-nought_is (negsuc n) e = absurd (let z : ◌≡◌ {A = ℕ} 0 1 = cc in omega arith)
+nought_is (negsuc n) e = cc
 
 module _ (ts : List Term) (tab : Table) (y : ℤ) where
   row_long : length (row_taken ts y tab) ≡ length tab
@@ -182,7 +182,7 @@ started_past i j (c ∷ cs) tab h =
     started_past (suc i) j cs _ (omega arith) ∙ get_or-set_other tab i j _ nought ne
 
 pub started_at : (i k : ℕ) (cs : List Column) (tab : Table) (c : Column) → slice_get cs k ≡ Some c → i + length cs ≤ length tab → get_or (started i cs tab) (i + k) nought ≡ start c
-started_at i k [] tab c at h = absurd (let z : ◌≡◌ {A = ℕ} 0 1 = cc in omega arith)
+started_at i k [] tab c at h = cc
 started_at i zero (d ∷ cs) tab c at h =
     let q : d ≡ c = cc in
     let z : i + 0 ≡ i = omega arith in

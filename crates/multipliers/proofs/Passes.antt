@@ -48,7 +48,7 @@ term_is b i k = go (slice_get b.rows i) refl
     go (Some r) e = rw e
 
 refer_at : (n : ℕ) (ts : List Term) (k : ℕ) (t : Term) → terms_refer n ts ≡ true → slice_get ts k ≡ Some t → t.column < n
-refer_at n [] k t e h = absurd (let z : ◌≡◌ {A = ℕ} 0 1 = cc in omega arith)
+refer_at n [] k t e h = cc
 refer_at n (s ∷ ts) zero t e h =
     let below = ltb-true s.column n (and_parts (ltb s.column n) (terms_refer n ts) e).0 in
     let q : s ≡ t = cc in
@@ -61,14 +61,14 @@ module _ (b : Lists) (kept : sound b ≡ true) (i k : ℕ) (t : Term) (at : slic
   term_column = go (slice_get b.rows i) refl at
     where
       go : (o : Option FullRow) → slice_get b.rows i ≡ o → slice_get (terms_in o) k ≡ Some t → t.column < length b.columns
-      go None e h = absurd (let z : ◌≡◌ {A = ℕ} 0 1 = cc in omega arith)
+      go None e h = cc
       go (Some r) e h = refer_at (length b.columns) r.terms k t (row_sound b kept i r e).refer h
 
   pub term_early : k < 500
   term_early = go (slice_get b.rows i) refl at
     where
       go : (o : Option FullRow) → slice_get b.rows i ≡ o → slice_get (terms_in o) k ≡ Some t → k < 500
-      go None e h = absurd (let z : ◌≡◌ {A = ℕ} 0 1 = cc in omega arith)
+      go None e h = cc
       go (Some r) e h = omega (arith, nth_below r.terms k t h, row_short b kept i r e)
 
 -- ---- one row, and all rows
@@ -82,7 +82,7 @@ none_taken y tab = go (is_nought y)
 
 drop_past : {X : Type 0} (xs : List X) (i : ℕ) → slice_get xs i ≡ None → drop (suc i) xs ≡ []
 drop_past [] i h = refl
-drop_past (y ∷ ys) zero h = absurd (let z : ◌≡◌ {A = ℕ} 0 1 = cc in omega arith)
+drop_past (y ∷ ys) zero h = cc
 drop_past (y ∷ ys) (suc i) h = drop_past ys i h
 
 module _ (b : Lists) (i : ℕ) (zs : List ℤ) (tab all : Table) (inv : rows_taken (drop i b.rows) zs tab ≡ all) where

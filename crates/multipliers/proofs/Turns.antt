@@ -24,7 +24,7 @@ drop_none (y ∷ ys) zero h = cc
 drop_none (y ∷ ys) (suc i) h = drop_none ys i h
 
 pub nth_below : {X : Type 0} (xs : List X) (i : ℕ) (x : X) → slice_get xs i ≡ Some x → i < length xs
-nth_below [] i x h = absurd (let z : ◌≡◌ {A = ℕ} 0 1 = cc in omega arith)
+nth_below [] i x h = cc
 nth_below (y ∷ ys) zero x h = omega arith
 nth_below (y ∷ ys) (suc i) x h = let l = nth_below ys i x h in omega arith
 
@@ -33,7 +33,7 @@ pub row_there : (b : Lists) (i : ℕ) (r : Row) → Some r ≡ row_at b i → (l
 row_there b i r e = go (slice_get b.rows i) refl e
   where
     go : (o : Option FullRow) → slice_get b.rows i ≡ o → Some r ≡ option_map head o → (l : FullRow) × (slice_get b.rows i ≡ Some l) × (r ≡ head l)
-    go None p q = absurd (let z : ◌≡◌ {A = ℕ} 0 1 = cc in omega arith)
+    go None p q = cc
     go (Some l) p q = (l, p, cc)
 
 pub row_absent : (b : Lists) (i : ℕ) → None ≡ row_at b i → drop i b.rows ≡ []
@@ -41,7 +41,7 @@ row_absent b i e = go (slice_get b.rows i) refl e
   where
     go : (o : Option FullRow) → slice_get b.rows i ≡ o → None ≡ option_map head o → drop i b.rows ≡ []
     go None p q = drop_none b.rows i p
-    go (Some l) p q = absurd (let z : ◌≡◌ {A = ℕ} 0 1 = cc in omega arith)
+    go (Some l) p q = cc
 
 -- ---- a check that looks for the first row at fault
 

@@ -15,7 +15,7 @@ use Rattle.multipliers.proofs.Turns.{nth_below}
 use Rattle.multipliers.proofs.Columnwise.{Kept, reach_kept, nought_is, rows_long, rows_past, rows_at, started_long, started_past, started_at, table_is}
 
 clear_is : (o : Option ℤ) → is_clear o ≡ true → o ≡ nought
-clear_is None e = absurd (let z : ◌≡◌ {A = ℕ} 0 1 = cc in omega arith)
+clear_is None e = cc
 clear_is (Some z) e = ap Some (nought_is z e)
 
 all_clear : (tab : Table) → every is_clear tab ≡ true → (j : ℕ) → get_or tab j nought ≡ nought

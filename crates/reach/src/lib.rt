@@ -13,30 +13,25 @@ const LOW: i64 = -(1 << 60);
 fn within(z: i64) -> Option<i64>
     ensures { result ≡ reach z }
 {
-    if LOW <= z && z <= HIGH { Some(z) } else { None }
+    (LOW..=HIGH).contains(&z).then_some(z)
 }
 
 /// The sum, if it lies within the reach.
 pub fn sum(a: i64, b: i64) -> Option<i64>
     ensures { result ≡ reach (a +ℤ b) }
 {
-    match a.checked_add(b) {
-        Some(z) => within(z),
-        None => None,
-    }
+    a.checked_add(b).and_then(within)
 }
 
 /// The difference, if it lies within the reach.
 pub fn difference(a: i64, b: i64) -> Option<i64>
     ensures { result ≡ reach (a -ℤ b) }
 {
-    match a.checked_sub(b) {
-        Some(z) => within(z),
-        None => None,
-    }
+    a.checked_sub(b).and_then(within)
 }
 
 /// Whether the product lies within the reach, by the signs.
+#[tactic(auto, using(crate::proofs::Signs::by_signs))]
 fn product_fits(a: i64, b: i64) -> bool
     ensures { result ≡ in_reach (a *ℤ b) }
 {
@@ -53,29 +48,19 @@ fn product_fits(a: i64, b: i64) -> bool
 pub fn product(a: i64, b: i64) -> Option<i64>
     ensures { result ≡ reach (a *ℤ b) }
 {
-    if product_fits(a, b) {
-        Some(a * b)
-    } else {
-        None
-    }
+    product_fits(a, b).then(|| a * b)
 }
 
 /// t + a × b, if the product and the sum lie within the reach.
 pub fn more(t: i64, a: i64, b: i64) -> Option<i64>
     ensures { result ≡ more t a b }
 {
-    match product(a, b) {
-        Some(p) => sum(t, p),
-        None => None,
-    }
+    sum(t, product(a, b)?)
 }
 
 /// t − a × b, if the product and the difference lie within the reach.
 pub fn less(t: i64, a: i64, b: i64) -> Option<i64>
     ensures { result ≡ less t a b }
 {
-    match product(a, b) {
-        Some(p) => difference(t, p),
-        None => None,
-    }
+    difference(t, product(a, b)?)
 }

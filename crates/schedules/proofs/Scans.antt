@@ -31,7 +31,7 @@ or_else_cond false f r = refl
 -- a check that passes leaves the rest, and one that fails is the fault
 pub cond_none : (t : Bool) (f : DocketFault) (r : Option DocketFault) → cond t r (Some f) ≡ None → (t ≡ true) × (r ≡ None)
 cond_none true f r e = (refl, e)
-cond_none false f r e = let z : ◌≡◌ {A = ℕ} 0 1 = cc in absurd (omega arith)
+cond_none false f r e = cc
 
 -- the columns from j on, of which the first is checked under the number k
 pub column_turn : (k j : ℕ) (cs : List Column) (x : ℤ) (xs : List ℤ) → first_broken_column k (drop j cs) (x ∷ xs) ≡ or_else (broken_by k (slice_get cs j) x) (first_broken_column (suc k) (drop (suc j) cs) xs)
@@ -41,12 +41,12 @@ column_turn k zero (c ∷ cs) x xs = or_else_cond (within_limits c x) (ColumnBro
 column_turn k (suc j) (c ∷ cs) x xs = column_turn k j cs x xs
 
 pub fault_is : (o : Option DocketFault) (f : DocketFault) → Err f ≡ passed o → o ≡ Some f
-fault_is None f e = let z : ◌≡◌ {A = ℕ} 0 1 = cc in absurd (omega arith)
+fault_is None f e = cc
 fault_is (Some h) f e = cc
 
 pub none_is : (o : Option DocketFault) (u : Unit {0}) → Ok u ≡ passed o → o ≡ None
 none_is None u e = refl
-none_is (Some h) u e = let z : ◌≡◌ {A = ℕ} 0 1 = cc in absurd (omega arith)
+none_is (Some h) u e = cc
 
 -- the turn at the column j, where `all` is the first fault and xs are the numbers left
 module _ (cs : List Column) (j : ℕ) (x y : ℤ) (xs ys : List ℤ) (all : Option DocketFault) (inv : all ≡ first_broken_column j (drop j cs) xs) (front : xs ≡ x ∷ ys) (same : y ≡ x) where
@@ -75,7 +75,7 @@ benefit_end [] = refl
 benefit_end (c ∷ cs) = refl
 
 pub row_turn : (k i : ℕ) (rs : List FullRow) (xs : List ℤ) (r : Row) → option_map head (slice_get rs i) ≡ Some r → first_broken_row k (drop i rs) xs ≡ or_else (broken_row k r (activity (terms_of (slice_get rs i)) xs)) (first_broken_row (suc k) (drop (suc i) rs) xs)
-row_turn k i [] xs r e = let z : ◌≡◌ {A = ℕ} 0 1 = cc in absurd (omega arith)
+row_turn k i [] xs r e = cc
 row_turn k zero (q ∷ rs) xs r e =
     let same : head q ≡ r = cc in
     or_else_cond (within_sides q.lower q.upper (activity q.terms xs)) (RowBroken k q.code) (first_broken_row (suc k) rs xs)
@@ -94,14 +94,14 @@ module _ (rs : List FullRow) (i : ℕ) (xs : List ℤ) (r : Row) (a : ℤ) (all 
   row_stops f err = sym (ap passed (row_here ∙ ap (λ o. or_else o (first_broken_row (i + 1) (drop (i + 1) rs) xs)) (fault_is _ f err)))
 
 pub row_below : (rs : List FullRow) (i : ℕ) (r : Row) → option_map head (slice_get rs i) ≡ Some r → i < length rs
-row_below [] i r e = let z : ◌≡◌ {A = ℕ} 0 1 = cc in absurd (omega arith)
+row_below [] i r e = cc
 row_below (q ∷ rs) zero r e = omega arith
 row_below (q ∷ rs) (suc i) r e = let h = row_below rs i r e in omega arith
 
 pub rows_end : (k i : ℕ) (rs : List FullRow) (xs : List ℤ) → option_map head (slice_get rs i) ≡ None → first_broken_row k (drop i rs) xs ≡ None
 rows_end k zero [] xs e = refl
 rows_end k (suc i) [] xs e = refl
-rows_end k zero (q ∷ rs) xs e = let z : ◌≡◌ {A = ℕ} 0 1 = cc in absurd (omega arith)
+rows_end k zero (q ∷ rs) xs e = cc
 rows_end k (suc i) (q ∷ rs) xs e = rows_end k i rs xs e
 
 pub term_in_terms : (o : Option FullRow) (k : ℕ) → term_in o k ≡ slice_get (terms_of o) k
@@ -109,7 +109,7 @@ term_in_terms None k = refl
 term_in_terms (Some r) k = refl
 
 pub term_turn : (k : ℕ) (ts : List Term) (xs : List ℤ) (t : Term) → slice_get ts k ≡ Some t → activity (drop k ts) xs ≡ t.coefficient *ℤ get_or xs t.column (pos 0) +ℤ activity (drop (suc k) ts) xs
-term_turn k [] xs t e = let z : ◌≡◌ {A = ℕ} 0 1 = cc in absurd (omega arith)
+term_turn k [] xs t e = cc
 term_turn zero (q ∷ ts) xs t e =
     let same : q ≡ t = cc in
     ap (λ (h : Term). h.coefficient *ℤ get_or xs h.column (pos 0) +ℤ activity ts xs) same
@@ -118,23 +118,23 @@ term_turn (suc k) (q ∷ ts) xs t e = term_turn k ts xs t e
 pub terms_end : (k : ℕ) (ts : List Term) (xs : List ℤ) → slice_get ts k ≡ None → activity (drop k ts) xs ≡ pos 0
 terms_end zero [] xs e = refl
 terms_end (suc k) [] xs e = refl
-terms_end zero (q ∷ ts) xs e = let z : ◌≡◌ {A = ℕ} 0 1 = cc in absurd (omega arith)
+terms_end zero (q ∷ ts) xs e = cc
 terms_end (suc k) (q ∷ ts) xs e = terms_end k ts xs e
 
 -- an entry stands before the end
 pub nth_below : {X : Type 0} (xs : List X) (i : ℕ) (x : X) → slice_get xs i ≡ Some x → i < length xs
-nth_below [] i x e = let z : ◌≡◌ {A = ℕ} 0 1 = cc in absurd (omega arith)
+nth_below [] i x e = cc
 nth_below (y ∷ ys) zero x e = omega arith
 nth_below (y ∷ ys) (suc i) x e = let h = nth_below ys i x e in omega arith
 
 pub get_d_some : (xs : List ℤ) (i : ℕ) (x : ℤ) → Some x ≡ slice_get xs i → x ≡ get_or xs i (pos 0)
-get_d_some [] i x e = let z : ◌≡◌ {A = ℕ} 0 1 = cc in absurd (omega arith)
+get_d_some [] i x e = cc
 get_d_some (y ∷ ys) zero x e = cc
 get_d_some (y ∷ ys) (suc i) x e = get_d_some ys i x e
 
 pub get_or_none : (xs : List ℤ) (i : ℕ) → None ≡ slice_get xs i → pos 0 ≡ get_or xs i (pos 0)
 get_or_none [] i e = refl
-get_or_none (y ∷ ys) zero e = let z : ◌≡◌ {A = ℕ} 0 1 = cc in absurd (omega arith)
+get_or_none (y ∷ ys) zero e = cc
 get_or_none (y ∷ ys) (suc i) e = get_or_none ys i e
 
 -- ---- how large the numbers are, once the columns pass
@@ -178,7 +178,7 @@ gain_within k (suc j) (c ∷ cs) x xs s e = gain_within k j cs x xs (and_parts (
 
 -- a term of a row that keeps the conditions
 pub term_range : (n : ℕ) (ts : List Term) (k : ℕ) (t : Term) → terms_in_range ts ≡ true → terms_refer n ts ≡ true → slice_get ts k ≡ Some t → Within 1000000 t.coefficient × (t.column < n)
-term_range n [] k t i r e = let z : ◌≡◌ {A = ℕ} 0 1 = cc in absurd (omega arith)
+term_range n [] k t i r e = cc
 term_range n (q ∷ ts) zero t i r e =
     let same : q ≡ t = cc in
     let here = (and_parts (ltb q.column 65536 && is_coefficient q.coefficient) (terms_in_range ts) i).0 in

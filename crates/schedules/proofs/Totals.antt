@@ -23,7 +23,7 @@ sum_ends sum rest total inv none = omega (arith, linear)
 
 or_else_none : (a b : Option DocketFault) → or_else a b ≡ None → b ≡ None
 or_else_none None b e = e
-or_else_none (Some f) b e = let z : ◌≡◌ {A = ℕ} 0 1 = cc in absurd (omega arith)
+or_else_none (Some f) b e = cc
 
 -- the turn of the net benefit at the column j, where xs are the numbers left
 module _ (cs : List Column) (sound : every sound_column cs ≡ true) (j : ℕ) (x : ℤ) (xs ys : List ℤ) (limits : first_broken_column j (drop j cs) xs ≡ None) (front : xs ≡ x ∷ ys) where
@@ -47,7 +47,7 @@ record Known (n k : ℕ) (ts : List Term) (t : Term) : Type 0 where
   column : t.column < n
 
 known : (b : Lists) → sound b ≡ true → (i k : ℕ) (t : Term) (o : Option FullRow) → slice_get b.rows i ≡ o → slice_get (terms_of o) k ≡ Some t → Known (length b.columns) k (terms_of o) t
-known b kept i k t None row e = let z : ◌≡◌ {A = ℕ} 0 1 = cc in absurd (omega arith)
+known b kept i k t None row e = cc
 known b kept i k t (Some r) row e =
     let sound = row_sound b kept i r row in
     let range = term_range (length b.columns) r.terms k t sound.in_range sound.refer e in

@@ -34,7 +34,7 @@ either_end (negsuc n) p q = absurd (omega (arith, ints))
 
 switch_limits : (s y : Bool) → s ≡ true → (not s || y) ≡ true → y ≡ true
 switch_limits true y e h = h
-switch_limits false y e h = let z : ◌≡◌ {A = ℕ} 0 1 = cc in absurd (omega arith)
+switch_limits false y e h = cc
 
 column_met : (c : Column) (x : ℤ) → sound_column c ≡ true → within_limits c x ≡ true → MeetsColumn 1 c x
 column_met c x s e =
@@ -73,11 +73,11 @@ columns_pass k (c ∷ cs) (x ∷ xs) m =
 -- ---- rows
 
 above_met : (o : Option ℤ) (a : ℤ) → above_lower o a ≡ true → (s : ℤ) → o ≡ Some s → (pos 1 *ℤ s) ≤ℤ a
-above_met None a e s at = let z : ◌≡◌ {A = ℕ} 0 1 = cc in absurd (omega arith)
+above_met None a e s at = cc
 above_met (Some q) a e s at = let same : q ≡ s = cc in rw (one_times s) (omega (arith, ints))
 
 below_met : (o : Option ℤ) (a : ℤ) → below_upper o a ≡ true → (s : ℤ) → o ≡ Some s → a ≤ℤ (pos 1 *ℤ s)
-below_met None a e s at = let z : ◌≡◌ {A = ℕ} 0 1 = cc in absurd (omega arith)
+below_met None a e s at = cc
 below_met (Some q) a e s at = let same : q ≡ s = cc in rw (one_times s) (omega (arith, ints))
 
 above_passes : (o : Option ℤ) (a : ℤ) → ((s : ℤ) → o ≡ Some s → (pos 1 *ℤ s) ≤ℤ a) → above_lower o a ≡ true
@@ -107,7 +107,7 @@ rows_pass k (r ∷ rs) xs m =
 
 unless_ok : (o : Option DocketFault) (r : Result ℤ DocketFault) (v : ℤ) → unless o r ≡ Ok v → (o ≡ None) × (r ≡ Ok v)
 unless_ok None r v e = (refl, e)
-unless_ok (Some f) r v e = let z : ◌≡◌ {A = ℕ} 0 1 = cc in absurd (omega arith)
+unless_ok (Some f) r v e = cc
 
 abbrev last_check : ℤ → Result ℤ DocketFault
 last_check v = unless (beyond_benefit v) (Ok v)
@@ -161,7 +161,7 @@ count_is n vs e = eqb-true _ _ (and_parts (eqb (length vs % 4) 0) (eqb (length v
 
 count_cases : (t : Bool) (r : Result ℤ DocketFault) (v : ℤ) → cond t r (Err ValueCount) ≡ Ok v → (t ≡ true) × (r ≡ Ok v)
 count_cases true r v e = (refl, e)
-count_cases false r v e = let z : ◌≡◌ {A = ℕ} 0 1 = cc in absurd (omega arith)
+count_cases false r v e = cc
 
 -- an accepted schedule has one number a column and passes
 pub accepted_passes : (b : Lists) → sound b ≡ true → (vs : List ℕ) (v : ℤ) → schedule_answer b vs ≡ Ok v → (right_count 4 (length b.columns) vs ≡ true) × SchedulePasses b (quantities vs) v

@@ -8,7 +8,7 @@ ghost use Rattle.case_fields.specs.Tests.{in_turn, refers, complete};
 
 use crate::kind::RecordKind;
 use crate::record::CaseRecord;
-use crate::summary::Summary;
+use crate::summary::{Ends, Summary};
 use std::alloc::Global;
 
 impl Summary {
@@ -17,9 +17,7 @@ impl Summary {
         ensures { SumsUp result [] }
     {
         Summary {
-            last: None,
-            has_period: false,
-            has_requirement: false,
+            ends: None,
             nodes: 0,
             regulated: Vec::new(heap),
         }
@@ -27,12 +25,9 @@ impl Summary {
 
     /// Whether a field of this kind may follow.
     pub fn lets_follow(&self, kind: RecordKind) -> bool
-        ensures { result ≡ in_turn (last_tag self.now.last) kind (tag_of kind) }
+        ensures { result ≡ in_turn (last_tag self.now.ends) kind (tag_of kind) }
     {
-        match self.last {
-            None => true,
-            Some(last) => last < kind || (last == kind && !kind.once()),
-        }
+        self.ends.is_none_or(|ends| ends.last < kind || (ends.last == kind && !kind.once()))
     }
 
     /// Whether a node has this number.
@@ -68,6 +63,10 @@ impl Summary {
     pub fn is_complete(&self) -> bool
         ensures { (es : List Entry) → SumsUp self.now es → result ≡ complete es }
     {
-        self.has_period && self.nodes > 0 && self.has_requirement
+        let whole = Ends {
+            first: RecordKind::Period,
+            last: RecordKind::Requirement,
+        };
+        self.ends == Some(whole) && self.nodes > 0
     }
 }

@@ -32,7 +32,7 @@ loop-rest-preserved c =
     subst Inv (sym items) (record {
       bytes = read_on case_format es e got.begins inv.bytes;
       each = fit_push case_format [] es e inv.each got.fits;
-      sums = c.in_ok-note.ensures.sums es inv.sums got.fits.refers;
+      sums = c.in_ok-note.ensures.sums es inv.sums got.fits.follows got.fits.refers;
       nodes = omega (arith, inv.nodes, c.note.ensures.grows, offset_on case_format es e got.begins refl, sizes got.begins);
     })
 

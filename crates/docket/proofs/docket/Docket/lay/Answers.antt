@@ -1,0 +1,34 @@
+use Rattle.std.proofs.Common.{refl, inl, inr, w64, SFits, rules}
+use Rattle.std.proofs.lemmas.Int.{to_z-of_z}
+use Rattle.docket.proofs.Laying.{leader_is, next_fits, next_lays, refused_lays}
+use Rattle.docket.proofs.docket.Docket.lay.Goals as goal
+use Rattle.docket.proofs.docket.Docket.lay.Goals.{in-Schedule, in-Multipliers}
+
+pub invariant_of-self : goal.invariant_of-self
+invariant_of-self g c =
+    let i = c.self.inside in
+    next_fits g.B.Book.meaning i.book.now (g.met.B.Book.kept i.book.now) c.args.field.now c.args.kind c.in-Ok.new c.in-Ok.ensures.told i.best i.bound _ _ c.self.invariant
+    (inl (c.in-Schedule.is, leader_is _ _ i.best c.in-Ok.new _ (λ old t p e. search rules) c.leader-self-inside.ensures, refl))
+
+pub invariant_of-self-in-Multipliers : goal.invariant_of-self-in-Multipliers
+invariant_of-self-in-Multipliers g c =
+    let i = c.self.inside in
+    next_fits g.B.Book.meaning i.book.now (g.met.B.Book.kept i.book.now) c.args.field.now c.args.kind c.in-Ok.new c.in-Ok.ensures.told i.best i.bound _ _ c.self.invariant
+    (inr (c.in-Multipliers.is, refl, leader_is _ _ i.bound c.in-Ok.new _ (λ old t p e. search rules) c.leader-self-inside-in-Multipliers.ensures))
+
+pub returns-after-kind : goal.returns-after-kind
+returns-after-kind g c =
+    let i = c.self.inside in
+    let fits : SFits w64 c.in-Ok.new.figure = search rules in
+    let lays = next_lays g.B.Book.meaning i.book.now (g.met.B.Book.kept i.book.now) c.args.field.now c.args.kind c.in-Ok.new c.in-Ok.ensures.told i.best i.bound in
+    elim c.match-kind.branch [
+      | in-Schedule w ↦ lays _ _ _ _ _ (to_z-of_z w64 _ fits) c.self.view_is w.self-is
+          (inl (w.in-Schedule.is, leader_is _ _ i.best c.in-Ok.new _ (λ old t p e. search rules) w.leader-self-inside.ensures, refl))
+      | in-Multipliers w ↦ lays _ _ _ _ _ (to_z-of_z w64 _ fits) c.self.view_is w.self-is
+          (inr (w.in-Multipliers.is, refl, leader_is _ _ i.bound c.in-Ok.new _ (λ old t p e. search rules) w.leader-self-inside-in-Multipliers.ensures))
+    ]
+
+pub returns-in-Err : goal.returns-in-Err
+returns-in-Err g c =
+    let i = c.self.inside in
+    refused_lays g.B.Book.meaning i.book.now (g.met.B.Book.kept i.book.now) c.args.field.now c.args.kind c.in-Err.fault c.in-Err.ensures.told _ _ _ c.into.ensures c.self.view_is

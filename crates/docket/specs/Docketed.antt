@@ -1,0 +1,27 @@
+-- A docket, as its callers see it, and what laying a certificate on it does.
+use Rattle.std.specs.Prelude.{◌≡◌, true, List, [], ◌∷◌, ◌++◌}
+use Rattle.books.specs.Lists.{Lists}
+use Rattle.docket.specs.declared.standing.Standing.{Standing}
+use Rattle.docket.specs.declared.verdict.Verdict.{Verdict}
+use Rattle.docket.specs.Calls.{Laid, RightVerdict}
+use Rattle.docket.specs.Standings.{StandingOf}
+use Rattle.docket.specs.Verdicts.{is_refused}
+
+-- the book that a docket stands on, and what stands
+pub record Docketed (X : Type 0) : Type 0 where
+  pub book : X
+  pub standing : Standing
+
+abbrev pub docketed : {X : Type 0} → X → Standing → Docketed X
+docketed x s = record { book = x; standing = s }
+
+-- a call is laid on a docket whose book means these lists
+pub record Lays {X : Type 0} (meaning : X → Lists) (c : Laid) (w : Verdict) (before after : Docketed X) : Type 0 where
+  -- the verdict is that of the first check that fails, or of none
+  pub verdict : RightVerdict (meaning before.book) c w
+  -- whatever calls came before, what stands after this one is what they and it establish
+  pub history : (h : List Laid) → StandingOf (meaning before.book) h before.standing → StandingOf (meaning before.book) (h ++ c ∷ []) after.standing
+  -- the book is the same
+  pub book : after.book ≡ before.book
+  -- a refusal leaves the docket as it was
+  pub refused : is_refused w ≡ true → after ≡ before
