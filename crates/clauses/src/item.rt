@@ -12,8 +12,7 @@ fn all(quantity: Quantity, span: Span) -> Pick
 {
     Pick {
         quantity,
-        first: span.first,
-        past: span.past,
+        span,
         ends: Ends::Any,
     }
 }

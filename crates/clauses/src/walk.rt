@@ -24,7 +24,7 @@ fn next_in(table: &Table, items: &[Item], from: usize) -> usize
 {
     let mut best = table.len();
     for item in items {
-        best = best.min(table.next_among(item.pick.first, item.pick.past, from));
+        best = best.min(table.next_among(item.pick.span, from));
     }
     best
 }
