@@ -53,7 +53,7 @@ pub(crate) fn terms_of(
 {
     let mut out = Vec::new(heap);
     let mut at = next_in(table, items, 0);
-    // Kept: the walk goes from a column to the next that can have a coefficient and not to the one after it, as no iterator over the columns does.
+    // Kept: the walk skips to the next column that can have a coefficient; an iterator that does so would be this loop and a type around it.
     while let Some(named) = table.get(at) {
         let coefficient = coefficient_of(items, named.name);
         if coefficient != 0 {
