@@ -11,7 +11,7 @@ use Rattle.books.specs.Conditions.{every, few, sound, sound_column, sound_sides,
 use Rattle.case_columns.specs.declared.name.Named.{Named}
 use Rattle.clauses.specs.Stored.{holds, holds_row}
 use Rattle.clause_book.specs.CaseLists.{lists_of}
-use Rattle.clause_book.proofs.Withins.{ordered, leZ_true}
+use Rattle.clause_book.proofs.Withins.{ordered, in_order}
 
 -- a test that passes where another does fails nowhere else
 fails_too : (a b : Bool) → (b ≡ true → a ≡ true) → a ≡ false → b ≡ false
@@ -28,8 +28,8 @@ term_held : (t : Term) → (ltb t.column 65536 && is_coefficient t.coefficient) 
 term_held t h =
     let s = and_parts (ltb t.column 65536) (is_coefficient t.coefficient) h in
     let u = and_parts (le_z (neg_ℤ (pos 1000000)) t.coefficient) (le_z t.coefficient (pos 1000000)) s.1 in
-    let low = leZ_true (neg_ℤ (pos 1000000)) t.coefficient u.0 in
-    let high = leZ_true t.coefficient (pos 1000000) u.1 in
+    let low = in_order (neg_ℤ (pos 1000000)) t.coefficient u.0 in
+    let high = in_order t.coefficient (pos 1000000) u.1 in
     and_from (ltb t.column 65536) _ s.0 (and_from (le_z (neg_ℤ (pos 2147483648)) t.coefficient) (le_z t.coefficient (pos 2147483647)) (ordered (neg_ℤ (pos 2147483648)) t.coefficient (omega (arith, ints))) (ordered t.coefficient (pos 2147483647) (omega (arith, ints))))
 
 row_held : (n : ℕ) (r : FullRow) → sound_row n r ≡ true → holds_row r ≡ true

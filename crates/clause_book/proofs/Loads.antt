@@ -58,7 +58,7 @@ coefficient_load : (is : List Item) (n : Name) → tame n ≡ true → nat_abs (
 coefficient_load [] n t = omega arith
 coefficient_load (i ∷ is) n t =
     added (amount i n) (coefficient is n) (cond (eqb (number_of n.quantity) (quantity_of i)) (reach i.factor) 0) (load (number_of n.quantity) is)
-    (picked (among i.pick.first i.pick.past n) (eqb (number_of n.quantity) (quantity_of i)) (at_ends i.pick.ends n) (factor i.factor n) (reach i.factor) (factor_reach i.factor n t))
+    (picked (among i.pick.span.first i.pick.span.past n) (eqb (number_of n.quantity) (quantity_of i)) (at_ends i.pick.ends n) (factor i.factor n) (reach i.factor) (factor_reach i.factor n t))
     (coefficient_load is n t)
 
 -- a quantity has no item, or its load is one that was tested

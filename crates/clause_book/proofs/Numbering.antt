@@ -28,7 +28,7 @@ follows_last before t h = go (kind t) h
   where
     go : (k : Option RecordKind) → elim k [ Some j ↦ in_turn (tag_of_last before) j t | None ↦ false ] ≡ true → leb (tag_of_last before) t ≡ true
     go (Some j) e = (parts (leb (tag_of_last before) t) (not (both (once j) (eqb (tag_of_last before) t))) e).0
-    go None e = absurd (let z : ◌≡◌ {A = ℕ} 0 1 = cc in omega arith)
+    go None e = cc
 
 fit_rises : (before es : List Entry) → Fit case_format before es → rises (tag_of_last before) es ≡ true
 unfolding case_format

@@ -1,6 +1,7 @@
 -- The lists of a well formed case keep the conditions exactly when they are few.
-use Rattle.std.proofs.Common.{◌≡◌, ℕ, ◌≤◌, true, ◌&&◌, ltb, leb, List, [], ◌∷◌, map, length, sym, refl, subst, arith}
+use Rattle.std.proofs.Common.{◌≡◌, ℕ, ◌≤◌, true, ◌&&◌, ltb, leb, List, [], ◌∷◌, map, length, sym, refl, ◌∙◌, subst, arith}
 use Rattle.std.proofs.lemmas.List.{length-map}
+use Rattle.std.proofs.lemmas.List.Folds.{list_all-map}
 use Rattle.std.proofs.lemmas.Bool.{and_from, and_parts, leb-true}
 use Rattle.fields.specs.Files.{IsFile}
 use Rattle.case_fields.specs.Cases.{case_format}
@@ -16,7 +17,7 @@ use Rattle.case_columns.specs.Kinds.{kinds}
 use Rattle.clauses.specs.Rows.{Clause, row_of}
 use Rattle.clauses.specs.Clauses.{allowance, common, clauses, clauses_of}
 use Rattle.clause_book.specs.CaseLists.{case_lists}
-use Rattle.clause_book.proofs.Withins.{every_spread, every_map, every_parts}
+use Rattle.clause_book.proofs.Withins.{every_spread, every_parts}
 use Rattle.clause_book.proofs.Fitted.{joins_two, proper, each_proper}
 use Rattle.clause_book.proofs.SoundColumns.{tame, kept, columns_kept}
 use Rattle.clause_book.proofs.SoundRows.{clauses_kept}
@@ -52,8 +53,8 @@ proper_sound es w f =
     let counts = and_parts n m (and_parts (n && m) (every short rows) f).0 in
     let small : length cs ≤ 4000 = omega (arith, long, leb-true (length (map column cs)) 4000 counts.0) in
     let each = every_spread (λ (d : Clause). sound_row (length cs) (row_of cs d)) proper (clauses_of (common es)) (λ r e h. clauses_kept cs small kept-parts.1 (record { kinds = kinds es; allowance = allowance es; place = r }) (allowed es w) e h) 0 es w in
-    and_from _ _ (and_from _ _ f (every_map sound_column column cs kept-parts.0))
-    (subst (λ (k : ℕ). every (sound_row k) rows ≡ true) (sym long) (every_map (sound_row (length cs)) (row_of cs) (clauses es) each))
+    and_from _ _ (and_from _ _ f (list_all-map sound_column column cs ∙ kept-parts.0))
+    (subst (λ (k : ℕ). every (sound_row k) rows ≡ true) (sym long) (list_all-map (sound_row (length cs)) (row_of cs) (clauses es) ∙ each))
 
 pub case_sound : (bs : List ℕ) (es : List Entry) → IsFile case_format bs es → few (case_lists es) ≡ true → sound (case_lists es) ≡ true
 case_sound bs es i f = proper_sound es (each_proper [] es i.each) f

@@ -74,6 +74,7 @@ fn assemble(
 
 /// The book of the records of a case, of an input of this length.
 /// Rows are built only over columns that are not too many.
+#[tactic(auto, using(crate::proofs::Answered::many_columns, crate::proofs::Answered::assembled_built))]
 fn build(heap: Global, records: &[CaseRecord<'_>], length: usize) -> Result<ClauseBook, BookError>
     ensures { MatchResult result
         (BookOf (map meant records.now))

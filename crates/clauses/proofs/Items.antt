@@ -14,7 +14,7 @@ module _ (items : List Item) (i : ℕ) (d : Item) (p : Name) (h : i < length ite
   pub coefficient_added : (r z t : ℤ) → r ≡ amount (get_or items i d) p → z +ℤ coefficient (drop i items) p ≡ t → (z +ℤ r) +ℤ coefficient (drop (i + 1) items) p ≡ t
   coefficient_added r z t e inv = let m = coefficient_more in omega (arith, ints)
 
-  pub coefficient_skips : among (get_or items i d).pick.first (get_or items i d).pick.past p ≡ false → coefficient (drop i items) p ≡ coefficient (drop (i + 1) items) p
+  pub coefficient_skips : among (get_or items i d).pick.span.first (get_or items i d).pick.span.past p ≡ false → coefficient (drop i items) p ≡ coefficient (drop (i + 1) items) p
   coefficient_skips e =
       let k = (get_or items i d).pick in
       let m = coefficient_more in

@@ -18,19 +18,19 @@ use Rattle.clauses.specs.Rows.{Clause, equal, about, at_least, at_most}
 
 -- those of a quantity that belong to the record at a place
 abbrev pub the : Quantity → ℕ → Pick
-the q r = record { quantity = q; first = r; past = r + 1; ends = Any }
+the q r = record { quantity = q; span = record { first = r; past = r + 1 }; ends = Any }
 
 -- those of a quantity, of all records of a kind
 abbrev pub all : Quantity → Span → Pick
-all q k = record { quantity = q; first = k.first; past = k.past; ends = Any }
+all q k = record { quantity = q; span = k; ends = Any }
 
 -- of these, those at a node; of lines, those that start there
 abbrev pub starting : Quantity → Span → ℕ → Pick
-starting q k r = record { quantity = q; first = k.first; past = k.past; ends = Start r }
+starting q k r = record { quantity = q; span = k; ends = Start r }
 
 -- of these, those of lines that end at a node
 abbrev pub ending : Quantity → Span → ℕ → Pick
-ending q k r = record { quantity = q; first = k.first; past = k.past; ends = End r }
+ending q k r = record { quantity = q; span = k; ends = End r }
 
 -- a number times some columns, as one item
 abbrev pub item : ℤ → Pick → Item

@@ -46,7 +46,7 @@ at_ends (End r) n = n.end == r
 
 -- a column is among those picked
 abbrev pub picks : Pick → Name → Bool
-picks k n = among k.first k.past n && (number_of n.quantity == number_of k.quantity && at_ends k.ends n)
+picks k n = among k.span.first k.span.past n && (number_of n.quantity == number_of k.quantity && at_ends k.ends n)
 
 -- what a column is multiplied by
 abbrev pub factor : Factor → Name → ℤ

@@ -2,14 +2,14 @@
 ghost use Rattle.std.specs.Prelude.{◌≡◌, pos, ◌*ℤ◌, neg_ℤ, ◌≤ℤ◌};
 ghost use Rattle.case_columns.specs.Kinds.{at};
 ghost use Rattle.case_columns.specs.Tables.{columns_in};
-ghost use Rattle.case_columns.specs.declared.name.Quantity.TheVariants.{Angle, Generation};
+ghost use Rattle.case_columns.specs.declared.name.Quantity.TheVariants.{Angle, Weight, Generation};
 ghost use Rattle.clauses.specs.Stored.{Makes};
-ghost use Rattle.clauses.specs.Clauses.{the, item as item_of, flows_item, losses_item, node_flows, node_trade, weighed_flow, d_16_1_1, d_16_1_2, d_16_2_1, d_16_2_2, d_16_2_3, d_16_3_1, d_16_3_2, d_16_3_3, d_15_1_2, d_19_1_1, d_19_1_2, d_15_2_2, d_18_1_2, d_18_1_3, d_18_1_4, d_18_1_5, d_18_2_1};
+ghost use Rattle.clauses.specs.Clauses.{the, item as item_of, node_flows, node_trade, weighed_flow, d_16_1_1, d_16_1_2, d_16_2_1, d_16_2_2, d_16_2_3, d_16_3_1, d_16_3_2, d_16_3_3, d_15_1_2, d_19_1_1, d_19_1_2, d_15_2_2, d_18_1_2, d_18_1_3, d_18_1_4, d_18_1_5, d_18_2_1};
 
 use crate::error::ClauseError;
-use crate::item::{ending, every, starting, the};
+use crate::item::{item, the};
 use crate::row::Clauses;
-use crate::sum::{Factor, Item};
+use crate::sum::{Ends, Factor, Item};
 use case_columns::name::Quantity;
 use case_fields::record::{EnergyOffer, Line, RegulationOffer, Requirement};
 use stored_book::row::StoredRow;
@@ -34,22 +34,12 @@ impl Clauses<'_> {
         }
     }
 
-    /// Minus the line's Weights, each times its point's flow.
-    fn minus_flows(self) -> Item
-        ensures { result ≡ flows_item self.entry.setting.place }
+    /// The line's Weights, each times a factor.
+    fn weights(self, factor: Factor) -> Item
+        ensures { result ≡ record { factor = factor; pick = the Weight self.entry.setting.place } }
     {
         Item {
-            factor: Factor::MinusFlow,
-            pick: the(Quantity::Weight, self.setting.place),
-        }
-    }
-
-    /// Minus the line's Weights, each times its point's loss.
-    fn minus_losses(self) -> Item
-        ensures { result ≡ losses_item self.entry.setting.place }
-    {
-        Item {
-            factor: Factor::MinusLoss,
+            factor,
             pick: the(Quantity::Weight, self.setting.place),
         }
     }
@@ -84,10 +74,10 @@ impl Clauses<'_> {
         let place = self.setting.place;
         [
             self.own(2, Quantity::Injection),
-            starting(-2, Quantity::Flow, lines, place),
-            ending(2, Quantity::Flow, lines, place),
-            starting(-1, Quantity::Loss, lines, place),
-            ending(-1, Quantity::Loss, lines, place),
+            item(-2, Quantity::Flow, lines, Ends::Start(place)),
+            item(2, Quantity::Flow, lines, Ends::End(place)),
+            item(-1, Quantity::Loss, lines, Ends::Start(place)),
+            item(-1, Quantity::Loss, lines, Ends::End(place)),
         ]
     }
 
@@ -99,8 +89,8 @@ impl Clauses<'_> {
         let place = self.setting.place;
         [
             self.own(1, Quantity::Injection),
-            starting(-1, Quantity::Generation, kinds.offers, place),
-            starting(1, Quantity::Purchase, kinds.bids, place),
+            item(-1, Quantity::Generation, kinds.offers, Ends::Start(place)),
+            item(1, Quantity::Purchase, kinds.bids, Ends::Start(place)),
             self.own(-1, Quantity::Deficit),
             self.own(1, Quantity::Excess),
         ]
@@ -114,7 +104,7 @@ impl Clauses<'_> {
             self.own(100_000, Quantity::Flow),
             self.own(-100_000, Quantity::ShortW),
             self.own(100_000, Quantity::OverW),
-            self.minus_flows(),
+            self.weights(Factor::MinusFlow),
         ]
     }
 
@@ -189,7 +179,10 @@ impl Clauses<'_> {
         self.about(
             7,
             0,
-            &[self.own(100_000, Quantity::Loss), self.minus_losses()],
+            &[
+                self.own(100_000, Quantity::Loss),
+                self.weights(Factor::MinusLoss),
+            ],
         )
     }
 
@@ -324,7 +317,12 @@ impl Clauses<'_> {
             19,
             i64::from(needed.requirement),
             &[
-                every(1, Quantity::Regulation, self.setting.kinds.regulations),
+                item(
+                    1,
+                    Quantity::Regulation,
+                    self.setting.kinds.regulations,
+                    Ends::Any,
+                ),
                 self.own(1, Quantity::ShortRequirement),
             ],
         )

@@ -1,4 +1,5 @@
 //! Sums over named columns.
+use case_columns::kinds::Span;
 use case_columns::name::Quantity;
 
 /// Where the columns that count are.
@@ -12,12 +13,11 @@ pub enum Ends {
     End(usize),
 }
 
-/// The columns of a quantity, of the records from the place `first` to before `past`.
+/// The columns of a quantity, of some records that stand together.
 #[derive(Clone, Copy, PartialEq, Eq, Debug)]
 pub struct Pick {
     pub quantity: Quantity,
-    pub first: usize,
-    pub past: usize,
+    pub span: Span,
     pub ends: Ends,
 }
 

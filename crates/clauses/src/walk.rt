@@ -24,7 +24,7 @@ fn next_in(table: &Table, items: &[Item], from: usize) -> usize
 {
     let mut best = table.len();
     for item in items {
-        best = best.min(table.next_among(item.pick.first, item.pick.past, from));
+        best = best.min(table.next_among(item.pick.span, from));
     }
     best
 }
@@ -53,7 +53,7 @@ pub(crate) fn terms_of(
 {
     let mut out = Vec::new(heap);
     let mut at = next_in(table, items, 0);
-    // Kept: the walk goes from a column to the next that can have a coefficient and not to the one after it, as no iterator over the columns does.
+    // Kept: the walk skips to the next column that can have a coefficient; an iterator that does so would be this loop and a type around it.
     while let Some(named) = table.get(at) {
         let coefficient = coefficient_of(items, named.name);
         if coefficient != 0 {

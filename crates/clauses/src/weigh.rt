@@ -20,8 +20,8 @@ fn is_at(ends: Ends, name: Name) -> bool
 fn is_picked(pick: Pick, name: Name) -> bool
     ensures { result ≡ picks pick name }
 {
-    pick.first <= name.place
-        && name.place < pick.past
+    pick.span.first <= name.place
+        && name.place < pick.span.past
         && name.quantity == pick.quantity
         && is_at(pick.ends, name)
 }

@@ -5,6 +5,7 @@ ghost use Rattle.case_columns.specs.Placed.{start as start_of, among};
 ghost use Rattle.case_columns.specs.Tables.{columns_in};
 ghost use Rattle.case_columns.specs.declared.name.Named.{Named as ANamed};
 
+use crate::kinds::Span;
 use crate::name::Named;
 use crate::table::Table;
 
@@ -37,15 +38,15 @@ impl Table {
         self.starts.get(place).copied().unwrap_or(self.named.len())
     }
 
-    /// From a column on, the first that belongs to a record from one place to before another, or the number of columns if there is none.
+    /// From a column on, the first that belongs to one of some records that stand together, or the number of columns if there is none.
     #[tactic(auto, using(crate::proofs::Places::not_before, crate::proofs::Places::not_after))]
-    pub fn next_among(&self, first: usize, past: usize, from: usize) -> usize
+    pub fn next_among(&self, span: Span, from: usize) -> usize
         ensures low { from ≤ length (columns_in self.now) → from ≤ result }
         ensures high { result ≤ length (columns_in self.now) }
-        ensures skips { (i : ℕ) (d : ANamed) → from ≤ i → i < result → among first past (slice_index_or (columns_in self.now) i d).name ≡ false }
+        ensures skips { (i : ℕ) (d : ANamed) → from ≤ i → i < result → among span.first span.past (slice_index_or (columns_in self.now) i d).name ≡ false }
     {
-        let start = self.start(first);
-        let end = self.start(past);
+        let start = self.start(span.first);
+        let end = self.start(span.past);
         let next = start.max(from);
         if next < end { next } else { self.named.len() }
     }
