@@ -9,4 +9,3 @@ pub mod Meant
 pub mod Parsed
 pub mod Read
 pub mod Summaries
-pub mod Walks

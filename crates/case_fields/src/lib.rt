@@ -8,4 +8,3 @@ mod range;
 pub mod read;
 pub mod record;
 mod summary;
-mod walk;

@@ -9,14 +9,14 @@ ghost use Rattle.case_fields.specs.Entries.{Entry};
 ghost use Rattle.case_fields.specs.Meant.{meant};
 ghost use Rattle.case_fields.specs.Read.{Next};
 ghost use Rattle.case_fields.specs.Summaries.{SumsUp};
-ghost use Rattle.case_fields.specs.Walks.{IsCut};
+ghost use Rattle.fields.specs.Walks.{IsCut};
 
 use crate::kind::RecordKind;
 use crate::record::CaseRecord;
 use crate::summary::Summary;
-use crate::walk::Fields;
 use fields::fault::{FaultKind, FieldFault, ReadError};
 use fields::head;
+use fields::walk::Fields;
 use std::alloc::Global;
 
 /// The record of a field, after those summed up, or the fault of what stands in its place.

@@ -1,5 +1,5 @@
 use Rattle.std.proofs.Common.{subst, rules}
-use Rattle.case_fields.specs.Walks.{IsCut}
+use Rattle.fields.specs.Walks.{IsCut}
 use Rattle.case_fields.proofs.Judged.{unknown, out_of_turn, unfit_length, out_of_range, no_reference, next}
 use Rattle.case_fields.proofs.read.next_record.Goals as goal
 

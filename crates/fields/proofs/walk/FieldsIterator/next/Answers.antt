@@ -1,6 +1,6 @@
 use Rattle.std.proofs.Common.{◌<◌, length, arith, rules}
 use Rattle.fields.proofs.Loops.{sizes}
-use Rattle.case_fields.proofs.walk.FieldsIterator.next.Goals as goal
+use Rattle.fields.proofs.walk.FieldsIterator.next.Goals as goal
 
 pub returns-in-Ok-clause-goes : goal.returns-in-Ok-clause-goes
 returns-in-Ok-clause-goes c =

@@ -2,12 +2,12 @@
 ghost use Rattle.std.specs.Prelude.{◌≡◌, ◌≤◌, length};
 ghost use Rattle.std.specs.Iterator.{at_most};
 
-use fields::fault::FaultKind;
-use fields::head::{Field, cut_field};
+use crate::fault::FaultKind;
+use crate::head::{Field, cut_field};
 
 /// The fields of a file that are left. Behind one that passes the end nothing is left.
 #[derive(Drop)]
-pub(crate) struct Fields<'a> {
+pub struct Fields<'a> {
     input: &'a [u8],
     rest: &'a [u8],
     ghost within: { length rest.now ≤ length input.now },
@@ -15,7 +15,7 @@ pub(crate) struct Fields<'a> {
 
 impl<'a> Fields<'a> {
     /// The fields of an input.
-    pub(crate) fn of(input: &'a [u8]) -> Fields<'a>
+    pub fn of(input: &'a [u8]) -> Fields<'a>
         ensures input { result.input.now ≡ input.now }
         ensures rest { result.rest.now ≡ input.now }
     {
@@ -24,7 +24,7 @@ impl<'a> Fields<'a> {
 }
 
 impl<'a> Iterator for Fields<'a> {
-    ghost use Rattle.case_fields.specs.Walks.{Cuts};
+    ghost use Rattle.fields.specs.Walks.{Cuts};
 
     /// The place of a field, and the field or what is wrong with it.
     type Item = (usize, Result<Field<'a>, FaultKind>);

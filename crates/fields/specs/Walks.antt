@@ -4,7 +4,7 @@ use Rattle.fields.specs.Fields.{Begins, Cut}
 use Rattle.fields.specs.declared.fault.FaultKind.{FaultKind}
 use Rattle.fields.specs.declared.fault.FaultKind.TheVariants.{PastEnd}
 use Rattle.fields.specs.declared.head.Field.{Field}
-use Rattle.case_fields.specs.declared.walk.Fields.{Fields}
+use Rattle.fields.specs.declared.walk.Fields.{Fields}
 
 -- bytes begin with this field and go on with the rest, or they begin with none
 abbrev pub IsCut : List ℕ → Result Field FaultKind → List ℕ → Type 0
