@@ -9,10 +9,6 @@ use Rattle.listings.specs.Puts.{Puts}
 wrote_none : (old : List ℕ) (at : ℕ) → at ≤ length old → Wrote old at [] old at
 wrote_none old at room = record { bytes = sym (take-append-drop at old); next_is = omega arith; room = room }
 
--- the same bytes
-wrote_same : {old new : List ℕ} {at next : ℕ} (bs cs : List ℕ) → bs ≡ cs → Wrote old at bs new next → Wrote old at cs new next
-wrote_same bs cs e w = rw (← e) w
-
 wrote_more : {old mid new : List ℕ} {at next last : ℕ} (bs cs : List ℕ) → Wrote old at bs mid next → Wrote mid next cs new last → Wrote old at (bs ++ cs) new last
 wrote_more {old} {mid} {new} {at} {next} {last} bs cs p q =
     let front = take at old ++ bs in
