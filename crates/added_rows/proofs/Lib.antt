@@ -1,4 +1,0 @@
-pub mod Stored
-pub mod Judged
-pub mod Layered
-pub mod Answered

@@ -2,7 +2,7 @@
 use Rattle.std.specs.Prelude.{◌≡◌, ℕ, Bool, cond, ◌&&◌, List, [], ◌∷◌, ◌++◌, length, ℤ, Ok, Err, Option, Result, nat_le, nat_lt}
 use Rattle.listing_fields.specs.declared.term.Term.{Term}
 use Rattle.books.specs.Lists.{FullRow, Lists}
-use Rattle.books.specs.Conditions.{sound_row}
+use Rattle.books.specs.Conditions.{every, sound_row}
 use Rattle.books.specs.declared.fault.BookFault.{BookFault}
 use Rattle.books.specs.declared.fault.BookFault.TheVariants.{NoRoom, UnfitRow}
 
@@ -22,6 +22,10 @@ has_room own b = nat_lt own 32 && nat_lt (length b.rows) 4000
 -- at most 16 terms, and the conditions over n columns
 abbrev pub is_fit : ℕ → FullRow → Bool
 is_fit n row = nat_le (length row.terms) 16 && sound_row n row
+
+-- each of the rows is
+abbrev pub all_fit : ℕ → List FullRow → Bool
+all_fit n rows = every (is_fit n) rows
 
 -- the number of the row, or what it is refused for: for want of room first
 abbrev pub answer : ℕ → Lists → FullRow → Result ℕ BookFault

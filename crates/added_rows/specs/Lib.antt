@@ -1,4 +1,3 @@
-pub mod Terms
 pub mod OwnRows
 pub mod Adding
 pub mod Meaning

@@ -59,3 +59,21 @@ few_within b kept i (Some r) e = let short = row_short b kept i r e in omega (ar
 
 pub few_terms : (b : Lists) → sound b ≡ true → (i : ℕ) → length (terms_of b i) ≤ 4000
 few_terms b kept i = few_within b kept i (slice_get b.rows i) refl
+
+-- what is left of a list from a place on begins with the element there, and goes on with what is left behind it
+pub next_left : {X : Type 0} (xs : List X) (n : ℕ) (x : X) (rest : List X) → drop n xs ≡ x ∷ rest → (slice_get xs n ≡ Some x) × (rest ≡ drop (n + 1) xs)
+next_left [] zero x rest e = let z : ◌≡◌ {A = ℕ} 0 1 = cc in absurd (omega arith)
+next_left [] (suc n) x rest e = let z : ◌≡◌ {A = ℕ} 0 1 = cc in absurd (omega arith)
+next_left (y ∷ ys) zero x rest e =
+    let same : y ≡ x = cc in
+    let others : ys ≡ rest = cc in
+    (ap Some same, sym others)
+next_left (y ∷ ys) (suc n) x rest e =
+    let q = next_left ys n x rest e in
+    let on : suc n + 1 ≡ suc (n + 1) = omega arith in
+    (q.0, q.1 ∙ ap (λ k. drop k (y ∷ ys)) (sym on))
+
+pub end_left : {X : Type 0} (xs : List X) (n : ℕ) → drop n xs ≡ [] → slice_get xs n ≡ None
+end_left [] n e = refl
+end_left (y ∷ ys) zero e = let z : ◌≡◌ {A = ℕ} 0 1 = cc in absurd (omega arith)
+end_left (y ∷ ys) (suc n) e = end_left ys n e

@@ -1,12 +1,12 @@
 -- The conditions that every book keeps.
-use Rattle.std.specs.Prelude.{ℕ, Bool, true, false, not, ◌&&◌, ◌||◌, leb, List, [], ◌∷◌, length, ℤ, pos, Some, None, Option, int_le, nat_le}
+use Rattle.std.specs.Prelude.{ℕ, Bool, true, false, not, ◌&&◌, ◌||◌, leb, List, length, ℤ, pos, Some, None, Option, int_le, nat_le}
+use Rattle.std.specs.List.{list_all}
 use Rattle.listing_fields.specs.Tests.{within, are_limits, is_price, terms_in_range, terms_refer, terms_rise}
 use Rattle.books.specs.declared.part.Column.{Column}
 use Rattle.books.specs.Lists.{FullRow, Lists}
 
 abbrev pub every : {X : Type 0} → (X → Bool) → List X → Bool
-every p [] = true
-every p (x ∷ xs) = p x && every p xs
+every p xs = list_all p xs
 
 -- limits and price in range, limits in order, and those of a switch within 0 and 1
 abbrev pub sound_column : Column → Bool

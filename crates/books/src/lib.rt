@@ -3,6 +3,7 @@
 
 pub mod book;
 pub mod clause;
+pub mod condition;
 pub mod fault;
 pub mod part;
 pub mod walk;

@@ -28,6 +28,11 @@ pub enum Place {
 }
 
 impl fmt::Display for Place {
+    ghost use Rattle.std.specs.Prelude.{Some};
+    ghost use Rattle.books.specs.Places.{place_text};
+
+    ghost output = { λ p. Some (place_text p) };
+
     fn fmt<W: fmt::Write>(&self, f: &mut fmt::Formatter<W>) -> fmt::Result {
         match self {
             Place::Offset(n) => write!(f, "offset {n}"),

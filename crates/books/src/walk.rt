@@ -1,5 +1,5 @@
 //! The entries of a book, one after the other.
-ghost use Rattle.std.specs.Prelude.{◌≡◌, drop};
+ghost use Rattle.std.specs.Prelude.{◌≡◌, ◌≤◌, length, drop};
 ghost use Rattle.std.specs.Iterator.{YieldsFirst, item_count};
 ghost use Rattle.books.specs.Walks.{heads_of, terms_of};
 
@@ -19,6 +19,7 @@ impl<'b, B: Book> Columns<'b, B> {
     pub fn of(book: &'b B) -> Columns<'b, B>
         ensures book { result.book.now ≡ book.now }
         ensures next { result.next ≡ 0 }
+        ensures few { length (drop result.next (B.Book.meaning result.book.now).columns) ≤ 4000 }
     {
         Columns { book, next: 0 }
     }
@@ -50,6 +51,7 @@ impl<'b, B: Book> Rows<'b, B> {
     pub fn of(book: &'b B) -> Rows<'b, B>
         ensures book { result.book.now ≡ book.now }
         ensures next { result.next ≡ 0 }
+        ensures few { length (drop result.next (heads_of (B.Book.meaning result.book.now))) ≤ 4000 }
     {
         Rows { book, next: 0 }
     }
@@ -83,6 +85,7 @@ impl<'b, B: Book> Terms<'b, B> {
         ensures book { result.book.now ≡ book.now }
         ensures row { result.row ≡ row }
         ensures next { result.next ≡ 0 }
+        ensures few { length (drop result.next (terms_of (B.Book.meaning result.book.now) result.row)) ≤ 4000 }
     {
         Terms { book, row, next: 0 }
     }

@@ -1,19 +1,25 @@
 -- Counting the records of a lower tag.
-use Rattle.std.proofs.Common.{◌≡◌, ℕ, ◌+◌, ◌<◌, ◌≤◌, ltb, List, map, length, get_or, drop, sym, ap, ◌∙◌, le-ltb, lt-ltb}
-use Rattle.std.proofs.lemmas.List.{at_drop_more}
+use Rattle.std.proofs.Common.{◌≡◌, ℕ, suc, ◌+◌, nat_lt, nat_le, Bool, true, false, cond, List, map, refl, ap, ◌∙◌, arith}
+use Rattle.std.proofs.Math.Dec.{leb-suc-suc}
+use Rattle.std.specs.List.{count_by}
+use Rattle.std.proofs.lemmas.List.Recursion.{is_count_by}
 use Rattle.case_fields.specs.declared.record.CaseRecord.{CaseRecord}
 use Rattle.case_fields.specs.Encoding.{tag}
-use Rattle.case_fields.specs.Tests.{one}
 use Rattle.case_fields.specs.Meant.{meant}
+use Rattle.case_fields.specs.Tests.{one}
 use Rattle.case_columns.specs.Kinds.{below}
 
-module _ (t : ℕ) (rs : List CaseRecord) (i : ℕ) (d : CaseRecord) (g : ℕ) (h : i < length rs) (e : g ≡ tag (meant (get_or rs i d))) where
-  below_more : below t (map meant (drop i rs)) ≡ one (ltb g t) + below t (map meant (drop (i + 1) rs))
-  below_more =
-      at_drop_more (λ l. below t (map meant l)) rs i d h ∙ ap (λ v. one (ltb v t) + below t (map meant (drop (i + 1) rs))) (sym e)
+one_more : (b : Bool) (n : ℕ) → one b + n ≡ cond b (1 + n) n
+one_more true n = refl
+one_more false n = omega arith
 
-  pub counted : g < t → below t (map meant (drop i rs)) ≡ 1 + below t (map meant (drop (i + 1) rs))
-  counted lt = below_more ∙ ap (λ v. one v + below t (map meant (drop (i + 1) rs))) (lt-ltb g t lt)
+pub count_below : (t : ℕ) (rs : List CaseRecord) → below t (map meant rs) ≡ count_by (λ r. nat_lt (tag (meant r)) t) rs
+count_below t rs =
+    is_count_by (λ l. below t (map meant l)) (λ r. nat_lt (tag (meant r)) t) refl (λ r l. one_more (nat_lt (tag (meant r)) t) (below t (map meant l))) rs
 
-  pub passed : t ≤ g → below t (map meant (drop i rs)) ≡ 0 + below t (map meant (drop (i + 1) rs))
-  passed le = below_more ∙ ap (λ v. one v + below t (map meant (drop (i + 1) rs))) (le-ltb g t le)
+pub count_up_to : (t : ℕ) (rs : List CaseRecord) → below (t + 1) (map meant rs) ≡ count_by (λ r. nat_le (tag (meant r)) t) rs
+count_up_to t rs =
+    is_count_by (λ l. below (t + 1) (map meant l)) (λ r. nat_le (tag (meant r)) t) refl (λ r l. ap (λ b. one b + below (t + 1) (map meant l)) (lt_next (tag (meant r)) t) ∙ one_more (nat_le (tag (meant r)) t) (below (t + 1) (map meant l))) rs
+  where
+    lt_next : (n m : ℕ) → nat_lt n (m + 1) ≡ nat_le n m
+    lt_next n m = let e : m + 1 ≡ suc m = omega arith in ap (nat_lt n) e ∙ leb-suc-suc n m

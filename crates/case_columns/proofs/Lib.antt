@@ -1,3 +1,3 @@
 pub mod Places
-pub mod Steps
 pub mod Counts
+pub mod Owned

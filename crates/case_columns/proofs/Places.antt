@@ -1,10 +1,11 @@
 -- The places of columns as a table grows, and what they say of the columns of some records.
 use Rattle.std.proofs.Common.{◌≡◌, ℕ, zero, suc, ◌+◌, ◌<◌, ◌≤◌, Bool, true, false, cond, ◌&&◌, leb, ◌⊎◌, List, [], ◌∷◌, ◌++◌, map, length, get_or, sym, refl, ap, ◌∙◌, subst, inl, inr, arith, le-ltb, le-leb, leb-true}
 use borrow.Author.Tests.{lt-leb}
-use Rattle.std.proofs.lemmas.List.{map_push, get_or_append_left, get_or_push, length_push, length-map, get_or-map, get_or_past}
+use Rattle.std.proofs.lemmas.List.{append-nil, append_assoc, map_push, get_or_append_left, get_or_push, length_push, length-map, get_or-map}
 use Rattle.std.proofs.lemmas.Bool.{cases_lt}
 use Rattle.case_columns.specs.declared.name.Named.{Named}
 use Rattle.case_columns.specs.Placed.{among, start, Low, Placed, place_at}
+use Rattle.case_columns.specs.Tables.{Own}
 
 same_start : (ss : List ℕ) (n r : ℕ) → get_or (ss ++ n ∷ []) r n ≡ get_or ss r n
 same_start [] n zero = refl
@@ -13,17 +14,15 @@ same_start (s ∷ ss) n zero = refl
 same_start (s ∷ ss) n (suc r) = same_start ss n r
 
 -- a record begins where the columns end
-module _ (cs : List Named) (ss : List ℕ) where
-  pub begun_low : (b : Bool) (n : ℕ) (ts : List ℕ) → n ≡ length cs → ts ≡ cond b (ss ++ n ∷ []) ss → Low cs ss → Low cs ts
-  begun_low true n ts e f low r = omega (arith, low r, ap (λ t. get_or t r (length cs)) f, ap (λ k. get_or (ss ++ k ∷ []) r (length cs)) e, same_start ss (length cs) r)
-  begun_low false n ts e f low r = omega (arith, low r, ap (λ t. get_or t r (length cs)) f)
+module _ (cs : List Named) (ss : List ℕ) (n : ℕ) (e : n ≡ length cs) where
+  begun_start : (r : ℕ) → start cs (ss ++ n ∷ []) r ≡ start cs ss r
+  begun_start r = ap (λ k. get_or (ss ++ k ∷ []) r (length cs)) e ∙ same_start ss (length cs) r
 
-  begun_start : (b : Bool) (n : ℕ) (ts : List ℕ) (r : ℕ) → n ≡ length cs → ts ≡ cond b (ss ++ n ∷ []) ss → start cs ts r ≡ start cs ss r
-  begun_start true n ts r e f = ap (λ t. get_or t r (length cs)) f ∙ ap (λ k. get_or (ss ++ k ∷ []) r (length cs)) e ∙ same_start ss (length cs) r
-  begun_start false n ts r e f = ap (λ t. get_or t r (length cs)) f
+  pub begun_low : Low cs ss → Low cs (ss ++ n ∷ [])
+  begun_low low r = omega (arith, low r, begun_start r)
 
-  pub begun_placed : (b : Bool) (n : ℕ) (ts : List ℕ) → n ≡ length cs → ts ≡ cond b (ss ++ n ∷ []) ss → Placed cs ss → Placed cs ts
-  begun_placed b n ts e f placed i r h = ap (λ s. leb s i) (begun_start b n ts r e f) ∙ placed i r h
+  pub begun_placed : Placed cs ss → Placed cs (ss ++ n ∷ [])
+  begun_placed placed i r h = ap (λ s. leb s i) (begun_start r) ∙ placed i r h
 
 -- the end of the columns as one is added
 Grown : List ℕ → ℕ → ℕ → Type 0
@@ -87,13 +86,37 @@ module _ (cs : List Named) (ss : List ℕ) (x : Named) (own : x.name.place + 1 �
             ap (leb (start (cs ++ x ∷ []) ss r)) e ∙ new_start r ∙ ap (leb r) (sym new_place) ∙ ap (λ j. leb r (place_at (cs ++ x ∷ []) j)) (sym e)
       ]
 
-  pub pushed_low : (b : Bool) (ds : List Named) → ds ≡ cond b (cs ++ x ∷ []) cs → Low ds ss
-  pushed_low true ds e = subst (λ (l : List Named). Low l ss) (sym e) low_after
-  pushed_low false ds e = subst (λ (l : List Named). Low l ss) (sym e) low
+-- all columns of the last record
+pub all_low : (cs : List Named) (ss : List ℕ) (xs : List Named) → Own (length ss) xs → Low cs ss → Placed cs ss → Low (cs ++ xs) ss
+all_low cs ss [] own low placed = subst (λ (l : List Named). Low l ss) (sym (append-nil cs)) low
+all_low cs ss (x ∷ xs) own low placed =
+    subst (λ (l : List Named). Low l ss) (append_assoc cs (x ∷ []) xs)
+    (all_low (cs ++ x ∷ []) ss xs own.1 (low_after cs ss x own.0 low placed) (placed_after cs ss x own.0 low placed))
 
-  pub pushed_placed : (b : Bool) (ds : List Named) → ds ≡ cond b (cs ++ x ∷ []) cs → Placed ds ss
-  pushed_placed true ds e = subst (λ (l : List Named). Placed l ss) (sym e) placed_after
-  pushed_placed false ds e = subst (λ (l : List Named). Placed l ss) (sym e) placed
+pub all_placed : (cs : List Named) (ss : List ℕ) (xs : List Named) → Own (length ss) xs → Low cs ss → Placed cs ss → Placed (cs ++ xs) ss
+all_placed cs ss [] own low placed = subst (λ (l : List Named). Placed l ss) (sym (append-nil cs)) placed
+all_placed cs ss (x ∷ xs) own low placed =
+    subst (λ (l : List Named). Placed l ss) (append_assoc cs (x ∷ []) xs)
+    (all_placed (cs ++ x ∷ []) ss xs own.1 (low_after cs ss x own.0 low placed) (placed_after cs ss x own.0 low placed))
+
+-- a record is begun, and its columns are added or not
+module _ (cs : List Named) (ss : List ℕ) (n : ℕ) (ts : List ℕ) (xs : List Named) (e : n ≡ length cs) (f : ts ≡ ss ++ n ∷ []) (own : Own (length ss + 1) xs) (low : Low cs ss) (placed : Placed cs ss) where
+  begun_own : Own (length (ss ++ n ∷ [])) xs
+  begun_own = subst (λ (k : ℕ). Own k xs) (sym (length_push ss n)) own
+
+  pub record_low : (b : Bool) (ds : List Named) → ds ≡ cond b (cs ++ xs) cs → Low ds ts
+  record_low false ds g = let l = begun_low cs ss n e low in rw (g, f) l
+  record_low true ds g =
+      let l = begun_low cs ss n e low in
+      let p = begun_placed cs ss n e placed in
+      rw (g, f) (all_low cs (ss ++ n ∷ []) xs begun_own l p)
+
+  pub record_placed : (b : Bool) (ds : List Named) → ds ≡ cond b (cs ++ xs) cs → Placed ds ts
+  record_placed false ds g = let p = begun_placed cs ss n e placed in rw (g, f) p
+  record_placed true ds g =
+      let l = begun_low cs ss n e low in
+      let p = begun_placed cs ss n e placed in
+      rw (g, f) (all_placed cs (ss ++ n ∷ []) xs begun_own l p)
 
 -- outside the columns from one record to before another
 and_left : (a b : Bool) → a ≡ false → (a && b) ≡ false
@@ -103,9 +126,6 @@ and_left false b e = refl
 and_right : (a b : Bool) → b ≡ false → (a && b) ≡ false
 and_right true b e = e
 and_right false b e = refl
-
-pub start_past : (cs : List Named) (ss : List ℕ) (r n : ℕ) → length ss ≤ r → n ≡ length cs → n ≡ start cs ss r
-start_past cs ss r n h e = e ∙ sym (get_or_past ss r (length cs) h)
 
 module _ (cs : List Named) (ss : List ℕ) (first past : ℕ) (placed : Placed cs ss) (i : ℕ) (d : Named) (h : i < length cs) where
   placed_here : (r : ℕ) → leb (start cs ss r) i ≡ leb r (get_or cs i d).name.place

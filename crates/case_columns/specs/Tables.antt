@@ -16,7 +16,7 @@ abbrev pub Own : ℕ → List Named → Type 0
 Own n [] = Unit {0}
 Own n (c ∷ cs) = (c.name.place + 1 ≡ n) × Own n cs
 
--- the second table is the first with these columns behind its own, and no record more
+-- the second table is the first with one record more, whose columns these are
 pub record Adds (s t : Table) (cs : List Named) : Type 0 where
   pub columns : columns_in t ≡ columns_in s ++ cs
-  pub same : begun t ≡ begun s
+  pub begun : begun t ≡ begun s + 1

@@ -1,289 +1,184 @@
 //! The columns of each record, and of a case.
-ghost use Rattle.std.specs.Prelude.{◌≡◌, ◌+◌, true, false, [], ◌∷◌, ◌++◌, map, IfOk, OnOk};
-ghost use Rattle.case_fields.specs.Meant.{meant};
-ghost use Rattle.case_fields.specs.Parts.{blocks_in, points_in};
-ghost use Rattle.case_columns.specs.Kinds.{Few};
-ghost use Rattle.case_columns.specs.declared.name.Quantity.TheVariants.{OfferBlock, RegulationBlock};
-ghost use Rattle.case_columns.specs.Tables.{columns_in, begun, Adds};
-ghost use Rattle.case_columns.specs.Columns.{block_column, weight as weight_of, node_columns, line_front, line_columns, offer_front, offer_columns, bid_columns, regulation_front, regulation_columns, requirement_columns, columns_of, columns as all_columns};
+ghost use Rattle.std.specs.Prelude.{◌≡◌, map, IfOk};
+ghost use Rattle.case_fields.specs.Meant.{node_meant, line_meant, energy_offer_meant, bid_meant, regulation_offer_meant, requirement_meant, meant};
+ghost use Rattle.case_columns.specs.Kinds.{at};
+ghost use Rattle.case_columns.specs.Tables.{columns_in};
+ghost use Rattle.case_columns.specs.Columns.{line_front, offer_front, regulation_front, columns_of, columns as all_columns};
 
 use crate::column::{
-    angle, between, block as block_column, free, injection, priced, switch, violation, weight,
+    angle, between, bought, free, injection, priced, sold, switch, violation, weight,
 };
 use crate::count::kinds_of;
-use crate::kinds::Kinds;
-use crate::name::Quantity;
+use crate::name::{Named, Quantity};
+use crate::position::Position;
 use crate::table::Table;
-use case_fields::part::{Blocks, Points};
-use case_fields::record::CaseRecord;
+use case_fields::record::{Bid, CaseRecord, EnergyOffer, Line, Node, RegulationOffer, Requirement};
 use std::alloc::{AllocError, Global};
 
-/// Adds a column for each block.
-fn push_blocks(
-    table: &mut Table,
-    bought: bool,
-    quantity: Quantity,
-    place: usize,
-    blocks: Blocks<'_>,
-) -> Result<(), AllocError>
-    requires { place + 1 ≡ begun table.old }
-    ensures { OnOk result (Adds table.old table.new (map (block_column bought quantity place) (blocks_in blocks.entry.bytes.now))) }
-{
-    let mut i = 0;
-    while let Some(block) = blocks.get(i) {
-        table.push(block_column(bought, quantity, place, block))?;
-        i += 1;
+impl Position {
+    /// The place of the node of a number.
+    fn node_place(self, node: u16) -> usize
+        ensures { result ≡ at self.kinds.nodes node }
+    {
+        self.kinds.nodes.first + node as usize
     }
-    Ok(())
-}
 
-/// Adds a Weight for each point.
-fn push_weights(table: &mut Table, place: usize, points: Points<'_>) -> Result<(), AllocError>
-    requires { place + 1 ≡ begun table.old }
-    ensures { OnOk result (Adds table.old table.new (map (weight_of place) (points_in points.entry.bytes.now))) }
-{
-    let mut i = 0;
-    while let Some(point) = points.get(i) {
-        table.push(weight(place, point))?;
-        i += 1;
-    }
-    Ok(())
-}
-
-/// Adds a node's columns.
-fn push_node(
-    table: &mut Table,
-    kinds: Kinds,
-    place: usize,
-    deficit_maximum: i32,
-    deficit_price: i32,
-    excess_maximum: i32,
-    excess_price: i32,
-) -> Result<(), AllocError>
-    requires { place + 1 ≡ begun table.old }
-    ensures { OnOk result (Adds table.old table.new (node_columns kinds place (record { deficit_maximum = deficit_maximum; deficit_price = deficit_price; excess_maximum = excess_maximum; excess_price = excess_price }))) }
-{
-    table.push_all(&[
-        injection(place),
-        angle(place, kinds.nodes.first),
-        priced(
-            Quantity::Deficit,
-            place,
-            place,
-            deficit_maximum,
-            deficit_price,
-        ),
-        priced(Quantity::Excess, place, place, excess_maximum, excess_price),
-    ])
-}
-
-/// Adds a line's columns before its Weights.
-fn push_line_front(
-    table: &mut Table,
-    kinds: Kinds,
-    place: usize,
-    start: u16,
-    end: u16,
-    price: i32,
-) -> Result<(), AllocError>
-    requires { (Few kinds) × (place + 1 ≡ begun table.old) }
-    ensures { OnOk result (Adds table.old table.new (line_front kinds place start end price)) }
-{
-    let start = kinds.nodes.first + start as usize;
-    let end = kinds.nodes.first + end as usize;
-    table.push_all(&[
-        between(Quantity::Flow, place, start, end, -1_000_000),
-        between(Quantity::Loss, place, start, end, 0),
-        violation(Quantity::OverForward, place, price),
-        violation(Quantity::OverReverse, place, price),
-        violation(Quantity::ShortW, place, price),
-        violation(Quantity::OverW, place, price),
-    ])
-}
-
-/// Adds a line's columns.
-fn push_line(
-    table: &mut Table,
-    kinds: Kinds,
-    place: usize,
-    start: u16,
-    end: u16,
-    price: i32,
-    points: Points<'_>,
-) -> Result<(), AllocError>
-    requires { (Few kinds) × (place + 1 ≡ begun table.old) }
-    ensures { OnOk result (Adds table.old table.new (line_front kinds place start end price ++ map (weight_of place) (points_in points.entry.bytes.now))) }
-{
-    push_line_front(table, kinds, place, start, end, price)?;
-    push_weights(table, place, points)?;
-    Ok(())
-}
-
-/// Adds an energy offer's columns before its blocks.
-fn push_offer_front(
-    table: &mut Table,
-    kinds: Kinds,
-    place: usize,
-    node: u16,
-    price: i32,
-) -> Result<(), AllocError>
-    requires { (Few kinds) × (place + 1 ≡ begun table.old) }
-    ensures { OnOk result (Adds table.old table.new (offer_front kinds place node price)) }
-{
-    table.push_all(&[
-        free(
-            Quantity::Generation,
-            place,
-            kinds.nodes.first + node as usize,
-        ),
-        violation(Quantity::OverUp, place, price),
-        violation(Quantity::OverDown, place, price),
-    ])
-}
-
-/// Adds an energy offer's columns.
-fn push_offer(
-    table: &mut Table,
-    kinds: Kinds,
-    place: usize,
-    node: u16,
-    price: i32,
-    blocks: Blocks<'_>,
-) -> Result<(), AllocError>
-    requires { (Few kinds) × (place + 1 ≡ begun table.old) }
-    ensures { OnOk result (Adds table.old table.new (offer_front kinds place node price ++ map (block_column false OfferBlock place) (blocks_in blocks.entry.bytes.now))) }
-{
-    push_offer_front(table, kinds, place, node, price)?;
-    push_blocks(table, false, Quantity::OfferBlock, place, blocks)?;
-    Ok(())
-}
-
-/// Adds a bid's columns.
-fn push_bid(
-    table: &mut Table,
-    kinds: Kinds,
-    place: usize,
-    node: u16,
-    blocks: Blocks<'_>,
-) -> Result<(), AllocError>
-    requires { (Few kinds) × (place + 1 ≡ begun table.old) }
-    ensures { OnOk result (Adds table.old table.new (bid_columns kinds place (record { node = node; blocks = blocks_in blocks.entry.bytes.now }))) }
-{
-    table.push(free(Quantity::Purchase, place, kinds.nodes.first + node as usize))?;
-    push_blocks(table, true, Quantity::BidBlock, place, blocks)?;
-    Ok(())
-}
-
-/// Adds a regulation offer's columns before its blocks.
-fn push_regulation_front(table: &mut Table, place: usize, price: i32) -> Result<(), AllocError>
-    requires { place + 1 ≡ begun table.old }
-    ensures { OnOk result (Adds table.old table.new (regulation_front place price)) }
-{
-    table.push_all(&[
-        free(Quantity::Regulation, place, 0),
-        switch(place),
-        violation(Quantity::OverReg, place, price),
-        violation(Quantity::ShortReg, place, price),
-    ])
-}
-
-/// Adds a regulation offer's columns.
-fn push_regulation(
-    table: &mut Table,
-    place: usize,
-    price: i32,
-    blocks: Blocks<'_>,
-) -> Result<(), AllocError>
-    requires { place + 1 ≡ begun table.old }
-    ensures { OnOk result (Adds table.old table.new (regulation_front place price ++ map (block_column false RegulationBlock place) (blocks_in blocks.entry.bytes.now))) }
-{
-    push_regulation_front(table, place, price)?;
-    push_blocks(table, false, Quantity::RegulationBlock, place, blocks)?;
-    Ok(())
-}
-
-/// Adds the requirement's column.
-fn push_requirement(
-    table: &mut Table,
-    place: usize,
-    requirement: i32,
-    deficit_price: i32,
-) -> Result<(), AllocError>
-    requires { place + 1 ≡ begun table.old }
-    ensures { OnOk result (Adds table.old table.new (requirement_columns place (record { requirement = requirement; deficit_price = deficit_price }))) }
-{
-    table.push(priced(
-        Quantity::ShortRequirement,
-        place,
-        0,
-        requirement,
-        deficit_price,
-    ))
-}
-
-/// Adds the columns of one record.
-fn push_record(
-    table: &mut Table,
-    kinds: Kinds,
-    place: usize,
-    given: CaseRecord<'_>,
-) -> Result<(), AllocError>
-    requires { (Few kinds) × (place + 1 ≡ begun table.old) }
-    ensures { OnOk result (Adds table.old table.new (columns_of kinds place (meant given.entry))) }
-{
-    match given {
-        CaseRecord::Period { .. } => Ok(()),
-        CaseRecord::Node {
-            deficit_maximum,
-            deficit_price,
-            excess_maximum,
-            excess_price,
-        } => {
-            push_node(
-                table,
-                kinds,
+    /// The columns of a node.
+    fn node(self, node: Node) -> [Named; 4]
+        ensures { result ≡ columns_of self.kinds self.place (node_meant node) }
+    {
+        let place = self.place;
+        [
+            injection(place),
+            angle(place, self.kinds.nodes.first),
+            priced(
+                Quantity::Deficit,
                 place,
-                deficit_maximum,
-                deficit_price,
-                excess_maximum,
-                excess_price,
-            )
+                place,
+                node.deficit_maximum,
+                node.deficit_price,
+            ),
+            priced(
+                Quantity::Excess,
+                place,
+                place,
+                node.excess_maximum,
+                node.excess_price,
+            ),
+        ]
+    }
+
+    /// The columns of a line before its Weights.
+    fn line_front(self, line: Line<'_>) -> [Named; 6]
+        ensures { result ≡ line_front self.kinds self.place line.entry.start line.entry.end line.entry.violation_price }
+    {
+        let place = self.place;
+        let start = self.node_place(line.start);
+        let end = self.node_place(line.end);
+        let price = line.violation_price;
+        [
+            between(Quantity::Flow, place, start, end, -1_000_000),
+            between(Quantity::Loss, place, start, end, 0),
+            violation(Quantity::OverForward, place, price),
+            violation(Quantity::OverReverse, place, price),
+            violation(Quantity::ShortW, place, price),
+            violation(Quantity::OverW, place, price),
+        ]
+    }
+
+    /// The columns of a line.
+    fn line(self, heap: Global, line: Line<'_>) -> Result<Vec<Named>, AllocError>
+        ensures { IfOk result (λ v. v.items ≡ columns_of self.kinds self.place (line_meant line.entry)) }
+    {
+        let place = self.place;
+        self.line_front(line)
+            .into_iter()
+            .chain(line.points.iter().map(|point| weight(place, point)))
+            .collect(heap)
+    }
+
+    /// The columns of an energy offer before its blocks.
+    fn offer_front(self, offer: EnergyOffer<'_>) -> [Named; 3]
+        ensures { result ≡ offer_front self.kinds self.place offer.entry.node offer.entry.violation_price }
+    {
+        let place = self.place;
+        let price = offer.violation_price;
+        [
+            free(Quantity::Generation, place, self.node_place(offer.node)),
+            violation(Quantity::OverUp, place, price),
+            violation(Quantity::OverDown, place, price),
+        ]
+    }
+
+    /// The columns of an energy offer.
+    fn offer(self, heap: Global, offer: EnergyOffer<'_>) -> Result<Vec<Named>, AllocError>
+        ensures { IfOk result (λ v. v.items ≡ columns_of self.kinds self.place (energy_offer_meant offer.entry)) }
+    {
+        let place = self.place;
+        let blocks = offer.blocks.iter();
+        self.offer_front(offer)
+            .into_iter()
+            .chain(blocks.map(|block| sold(Quantity::OfferBlock, place, block)))
+            .collect(heap)
+    }
+
+    /// The columns of a bid.
+    fn bid(self, heap: Global, bid: Bid<'_>) -> Result<Vec<Named>, AllocError>
+        ensures { IfOk result (λ v. v.items ≡ columns_of self.kinds self.place (bid_meant bid.entry)) }
+    {
+        let place = self.place;
+        let purchase = free(Quantity::Purchase, place, self.node_place(bid.node));
+        [purchase]
+            .into_iter()
+            .chain(bid.blocks.iter().map(|block| bought(place, block)))
+            .collect(heap)
+    }
+
+    /// The columns of a regulation offer before its blocks.
+    fn regulation_front(self, offer: RegulationOffer<'_>) -> [Named; 4]
+        ensures { result ≡ regulation_front self.place offer.entry.violation_price }
+    {
+        let place = self.place;
+        let price = offer.violation_price;
+        [
+            free(Quantity::Regulation, place, 0),
+            switch(place),
+            violation(Quantity::OverReg, place, price),
+            violation(Quantity::ShortReg, place, price),
+        ]
+    }
+
+    /// The columns of a regulation offer.
+    fn regulation(self, heap: Global, offer: RegulationOffer<'_>) -> Result<Vec<Named>, AllocError>
+        ensures { IfOk result (λ v. v.items ≡ columns_of self.kinds self.place (regulation_offer_meant offer.entry)) }
+    {
+        let place = self.place;
+        let blocks = offer.blocks.iter();
+        self.regulation_front(offer)
+            .into_iter()
+            .chain(blocks.map(|block| sold(Quantity::RegulationBlock, place, block)))
+            .collect(heap)
+    }
+
+    /// The column of the requirement.
+    fn requirement(self, needed: Requirement) -> [Named; 1]
+        ensures { result ≡ columns_of self.kinds self.place (requirement_meant needed) }
+    {
+        [priced(
+            Quantity::ShortRequirement,
+            self.place,
+            0,
+            needed.requirement,
+            needed.deficit_price,
+        )]
+    }
+
+    /// The columns of a record.
+    fn columns(self, heap: Global, given: CaseRecord<'_>) -> Result<Vec<Named>, AllocError>
+        ensures { IfOk result (λ v. v.items ≡ columns_of self.kinds self.place (meant given.entry)) }
+    {
+        match given {
+            CaseRecord::Period(_) => Ok(Vec::new(heap)),
+            CaseRecord::Node(node) => Vec::from_slice(heap, &self.node(node)),
+            CaseRecord::Line(line) => self.line(heap, line),
+            CaseRecord::EnergyOffer(offer) => self.offer(heap, offer),
+            CaseRecord::Bid(bid) => self.bid(heap, bid),
+            CaseRecord::RegulationOffer(offer) => self.regulation(heap, offer),
+            CaseRecord::Requirement(needed) => Vec::from_slice(heap, &self.requirement(needed)),
         }
-        CaseRecord::Line {
-            start,
-            end,
-            violation_price,
-            points,
-            ..
-        } => push_line(table, kinds, place, start, end, violation_price, points),
-        CaseRecord::EnergyOffer {
-            node,
-            violation_price,
-            blocks,
-            ..
-        } => push_offer(table, kinds, place, node, violation_price, blocks),
-        CaseRecord::Bid { node, blocks } => push_bid(table, kinds, place, node, blocks),
-        CaseRecord::RegulationOffer {
-            violation_price,
-            blocks,
-            ..
-        } => push_regulation(table, place, violation_price, blocks),
-        CaseRecord::Requirement {
-            requirement,
-            deficit_price,
-        } => push_requirement(table, place, requirement, deficit_price),
     }
 }
 
 /// The named columns of a case, in file order.
+#[tactic(auto, using(crate::proofs::Owned::own_added))]
 pub fn table_of(heap: Global, records: &[CaseRecord<'_>]) -> Result<Table, AllocError>
     ensures { IfOk result (λ t. columns_in t ≡ all_columns (map meant records.now)) }
 {
     let kinds = kinds_of(records);
     let mut table = Table::new(heap);
     for (place, given) in records.iter().enumerate() {
-        table.begin()?;
-        push_record(&mut table, kinds, place, *given)?;
+        let position = Position { kinds, place };
+        table.add_record(&position.columns(heap, *given)?)?;
     }
     Ok(table)
 }

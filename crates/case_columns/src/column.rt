@@ -1,6 +1,7 @@
 //! One column and its name.
-ghost use Rattle.std.specs.Prelude.{◌≡◌, negsuc, neg_ℤ, ◌≤ℤ◌, ◌==◌};
-ghost use Rattle.case_columns.specs.Columns.{minus as minus_of, column_of, free as free_of, priced as priced_of, violation as violation_of, between as between_of, weight as weight_of, switch_column, block_column, injection as injection_of, turn as turn_of, angle as angle_of};
+ghost use Rattle.std.specs.Prelude.{◌≡◌, true, false, negsuc, neg_ℤ, ◌≤ℤ◌};
+ghost use Rattle.case_columns.specs.Columns.{minus as minus_of, column_of, free as free_of, priced as priced_of, violation as violation_of, between as between_of, weight as weight_of, switch_column, block_column, injection as injection_of, angle as angle_of};
+ghost use Rattle.case_columns.specs.declared.name.Quantity.TheVariants.{BidBlock};
 
 use crate::name::{Name, Named, Quantity};
 use books::part::Column;
@@ -11,7 +12,7 @@ fn minus(price: i32) -> i32
     ensures value { result ≡ minus_of price }
     ensures exact { negsuc 2147483646 ≤ℤ price → result ≡ neg_ℤ price }
 {
-    0i32.saturating_sub(price)
+    price.saturating_neg()
 }
 
 /// A column that is counted at a node, with its limits and its price.
@@ -25,22 +26,21 @@ fn column(
 ) -> Named
     ensures { result ≡ column_of quantity place node lower upper price }
 {
-    Named {
-        name: Name {
-            quantity,
-            place,
-            start: node,
-            end: 0,
-            flow: 0,
-            loss: 0,
-        },
-        column: Column {
-            lower,
-            upper,
-            price,
-            switch: false,
-        },
-    }
+    let name = Name {
+        quantity,
+        place,
+        start: node,
+        end: 0,
+        flow: 0,
+        loss: 0,
+    };
+    let column = Column {
+        lower,
+        upper,
+        price,
+        switch: false,
+    };
+    Named { name, column }
 }
 
 /// 0 to 1,000,000, at no price.
@@ -80,21 +80,10 @@ pub(crate) fn between(
 ) -> Named
     ensures { result ≡ between_of quantity place start end lower }
 {
+    let named = column(quantity, place, start, lower, 1_000_000, 0);
     Named {
-        name: Name {
-            quantity,
-            place,
-            start,
-            end,
-            flow: 0,
-            loss: 0,
-        },
-        column: Column {
-            lower,
-            upper: 1_000_000,
-            price: 0,
-            switch: false,
-        },
+        name: Name { end, ..named.name },
+        ..named
     }
 }
 
@@ -102,21 +91,14 @@ pub(crate) fn between(
 pub(crate) fn weight(place: usize, point: Point) -> Named
     ensures { result ≡ weight_of place point }
 {
+    let named = column(Quantity::Weight, place, 0, 0, 100_000, 0);
     Named {
         name: Name {
-            quantity: Quantity::Weight,
-            place,
-            start: 0,
-            end: 0,
             flow: point.flow,
             loss: point.loss,
+            ..named.name
         },
-        column: Column {
-            lower: 0,
-            upper: 100_000,
-            price: 0,
-            switch: false,
-        },
+        ..named
     }
 }
 
@@ -124,33 +106,28 @@ pub(crate) fn weight(place: usize, point: Point) -> Named
 pub(crate) fn switch(place: usize) -> Named
     ensures { result ≡ switch_column place }
 {
+    let named = column(Quantity::Switch, place, 0, 0, 1, 0);
     Named {
-        name: Name {
-            quantity: Quantity::Switch,
-            place,
-            start: 0,
-            end: 0,
-            flow: 0,
-            loss: 0,
-        },
         column: Column {
-            lower: 0,
-            upper: 1,
-            price: 0,
             switch: true,
+            ..named.column
         },
+        ..named
     }
 }
 
-/// A block of what is bought or sold.
-pub(crate) fn block(bought: bool, quantity: Quantity, place: usize, block: Block) -> Named
-    ensures { result ≡ block_column bought quantity place block }
+/// A block of what is sold, at minus its price.
+pub(crate) fn sold(quantity: Quantity, place: usize, block: Block) -> Named
+    ensures { result ≡ block_column false quantity place block }
 {
-    if bought {
-        column(quantity, place, 0, 0, block.maximum, block.price)
-    } else {
-        column(quantity, place, 0, 0, block.maximum, minus(block.price))
-    }
+    priced(quantity, place, 0, block.maximum, block.price)
+}
+
+/// A block of a bid, at its price.
+pub(crate) fn bought(place: usize, block: Block) -> Named
+    ensures { result ≡ block_column true BidBlock place block }
+{
+    column(Quantity::BidBlock, place, 0, 0, block.maximum, block.price)
 }
 
 /// A node's Injection.
@@ -167,18 +144,10 @@ pub(crate) fn injection(place: usize) -> Named
     )
 }
 
-/// The limit of an angle, which is nought at the reference node.
-fn turn(place: usize, reference: usize, limit: i32) -> i32
-    ensures { result ≡ turn_of (place == reference) limit }
-{
-    if place == reference { 0 } else { limit }
-}
-
-/// A node's Angle.
+/// A node's Angle, which is nought at the reference node.
 pub(crate) fn angle(place: usize, reference: usize) -> Named
     ensures { result ≡ angle_of place reference }
 {
-    let lower = turn(place, reference, -1_000_000);
-    let upper = turn(place, reference, 1_000_000);
-    column(Quantity::Angle, place, place, lower, upper, 0)
+    let limit = if place == reference { 0 } else { 1_000_000 };
+    column(Quantity::Angle, place, place, -limit, limit, 0)
 }

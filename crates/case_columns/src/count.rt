@@ -1,35 +1,24 @@
 //! Counting the records.
 ghost use Rattle.std.specs.Prelude.{◌≡◌, ◌+◌, ◌<◌, ◌≤◌, map, length};
+ghost use Rattle.case_fields.specs.Kinds.{tag_of};
 ghost use Rattle.case_fields.specs.Meant.{meant};
 ghost use Rattle.case_columns.specs.Kinds.{below, kinds, Few};
 
 use crate::kinds::{Kinds, Span};
+use case_fields::kind::RecordKind;
 use case_fields::record::CaseRecord;
 
-/// How many records have a lower tag.
-fn below_tag(records: &[CaseRecord<'_>], tag: u8) -> usize
-    ensures value { result ≡ below tag (map meant records.now) }
-    ensures high { result ≤ length records.now }
-{
-    let mut n = 0;
-    for given in records {
-        if given.tag() < tag {
-            n += 1;
-        }
-    }
-    n
-}
-
-/// The records of a tag.
-fn span_of(records: &[CaseRecord<'_>], tag: u8) -> Span
-    requires { tag < 100 }
-    ensures first { result.first ≡ below tag (map meant records.now) }
-    ensures past { result.past ≡ below (tag + 1) (map meant records.now) }
+/// The records of a kind: those behind all of a lower tag, up to the last whose tag is not higher.
+#[tactic(auto, using(crate::proofs::Counts::count_below, crate::proofs::Counts::count_up_to))]
+fn span_of(records: &[CaseRecord<'_>], kind: RecordKind) -> Span
+    ensures first { result.first ≡ below (tag_of kind) (map meant records.now) }
+    ensures past { result.past ≡ below (tag_of kind + 1) (map meant records.now) }
     ensures high { result.first ≤ length records.now }
 {
+    let tag = kind.tag();
     Span {
-        first: below_tag(records, tag),
-        past: below_tag(records, tag + 1),
+        first: records.iter().filter(|given| given.tag() < tag).count(),
+        past: records.iter().filter(|given| given.tag() <= tag).count(),
     }
 }
 
@@ -39,10 +28,10 @@ pub fn kinds_of(records: &[CaseRecord<'_>]) -> Kinds
     ensures few { Few result }
 {
     Kinds {
-        nodes: span_of(records, 2),
-        lines: span_of(records, 3),
-        offers: span_of(records, 4),
-        bids: span_of(records, 5),
-        regulations: span_of(records, 6),
+        nodes: span_of(records, RecordKind::Node),
+        lines: span_of(records, RecordKind::Line),
+        offers: span_of(records, RecordKind::EnergyOffer),
+        bids: span_of(records, RecordKind::Bid),
+        regulations: span_of(records, RecordKind::RegulationOffer),
     }
 }

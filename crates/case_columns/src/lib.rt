@@ -6,4 +6,5 @@ pub mod column;
 pub mod count;
 pub mod kinds;
 pub mod name;
+mod position;
 pub mod table;

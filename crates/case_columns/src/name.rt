@@ -2,7 +2,7 @@
 use books::part::Column;
 
 /// Which quantity a column is.
-#[derive(Clone, Copy, Debug)]
+#[derive(Clone, Copy, PartialEq, Eq, Debug)]
 pub enum Quantity {
     /// Net injection at a node.
     Injection,
@@ -53,7 +53,7 @@ pub enum Quantity {
 }
 
 /// The name of a column.
-#[derive(Clone, Copy)]
+#[derive(Clone, Copy, PartialEq, Eq, Debug)]
 pub struct Name {
     pub quantity: Quantity,
     /// The place of its record in the file.
@@ -69,7 +69,7 @@ pub struct Name {
 }
 
 /// A column with its name.
-#[derive(Clone, Copy)]
+#[derive(Clone, Copy, PartialEq, Eq, Debug)]
 pub struct Named {
     pub name: Name,
     pub column: Column,

@@ -1,92 +1,38 @@
 -- The pairs of numbers in the bytes of a file.
-use Rattle.std.proofs.Common.{◌≡◌, ℕ, zero, suc, ◌+◌, ◌-◌, ◌*◌, ◌/◌, ◌%◌, ◌<◌, ◌≤◌, List, [], ◌∷◌, ◌++◌, map, length, get_or, take, drop, ℤ, Some, None, sym, refl, ap, ◌∙◌, subst, arith, lit<, w32, SFits, to_z}
-use mir.Facts.{sfits_to_z}
-use Rattle.std.specs.List.{slice_get, flat_map}
-use Rattle.std.proofs.lemmas.List.{take_rest, length-drop, length-map, length-append, drop-drop, append_assoc, nil_from_length}
-use Rattle.std.proofs.lemmas.Option.{slice_get_past}
-use Rattle.fields.specs.Bytes.{Bytes, signed_four}
-use Rattle.fields.proofs.Numbers.{signed_four_read, front_8}
+use Rattle.std.proofs.Common.{◌≡◌, ℕ, suc, ◌+◌, ◌*◌, ◌/◌, ◌%◌, ◌<◌, ◌^◌, List, [], ◌∷◌, ◌++◌, map, length, ℤ, sym, refl, ap, ◌∙◌, subst, arith, w32, SFits, to_z, of_z}
+use Rattle.std.proofs.Math.Facts.{sfits_to_z, Fits-of_z}
+use Rattle.std.proofs.lemmas.Int.{to_z-of_z}
+use Rattle.std.specs.List.{flat_map}
+use Rattle.std.proofs.lemmas.List.{length-append, append_assoc, nil_from_length}
+use Rattle.fields.specs.Bytes.{Bytes, four, signed_four}
+use Rattle.fields.proofs.Numbers.{signed_four_read}
 use Rattle.fields.proofs.Injective.{length-signed_four, signed_four_one}
 use Rattle.case_fields.specs.declared.part.Block.{Block}
 use Rattle.case_fields.specs.declared.part.Point.{Point}
 use Rattle.case_fields.specs.Parts.{pairs_in, block_of, point_of, blocks_in, points_in, blocks_bytes, points_bytes}
+use Rattle.case_fields.specs.Held.{by_eights, pairs_none, held_parts}
 use Rattle.case_fields.specs.Encoding.{BlocksWritten, PointsWritten}
 
--- fewer than eight bytes hold no pair
-pairs_none : (bs : List ℕ) → length bs < 8 → pairs_in bs ≡ []
-pairs_none [] h = refl
-pairs_none (a ∷ []) h = refl
-pairs_none (a ∷ b ∷ []) h = refl
-pairs_none (a ∷ b ∷ c ∷ []) h = refl
-pairs_none (a ∷ b ∷ c ∷ d ∷ []) h = refl
-pairs_none (a ∷ b ∷ c ∷ d ∷ e ∷ []) h = refl
-pairs_none (a ∷ b ∷ c ∷ d ∷ e ∷ f ∷ []) h = refl
-pairs_none (a ∷ b ∷ c ∷ d ∷ e ∷ f ∷ g ∷ []) h = refl
-pairs_none (a ∷ b ∷ c ∷ d ∷ e ∷ f ∷ g ∷ i ∷ bs) h = absurd (omega arith)
+-- four bytes read back as the signed number that is written so
+read_back : (z : ℤ) → SFits w32 z → to_z w32 (of_z w32 z / 16777216 % 256 * 16777216 + of_z w32 z / 65536 % 256 * 65536 + of_z w32 z / 256 % 256 * 256 + of_z w32 z % 256) ≡ z
+read_back z h =
+    let small : of_z w32 z < 2 ^ 32 = (Fits-of_z h).fits in
+    let whole : of_z w32 z / 16777216 % 256 * 16777216 + of_z w32 z / 65536 % 256 * 65536 + of_z w32 z / 256 % 256 * 256 + of_z w32 z % 256 ≡ of_z w32 z = omega arith in
+    ap (to_z w32) whole ∙ to_z-of_z w32 z h
 
--- the signed number that the bytes at four places hold
-abbrev pub number_at : List ℕ → ℕ → ℕ → ℕ → ℕ → ℤ
-number_at bs i j k l = to_z w32 (get_or bs i 0 * 16777216 + get_or bs j 0 * 65536 + get_or bs k 0 * 256 + get_or bs l 0)
+front_pair : (x y : ℤ) (rest : List ℕ) → SFits w32 x → SFits w32 y → pairs_in (signed_four x ++ (signed_four y ++ rest)) ≡ (x, y) ∷ pairs_in rest
+unfolding signed_four four
+front_pair x y rest h k = λ i. (read_back x h i, read_back y k i) ∷ pairs_in rest
 
--- eight bytes or more hold a pair, and what follows them the others
-pairs_more : (bs : List ℕ) → 8 ≤ length bs → pairs_in bs ≡ (number_at bs 0 1 2 3, number_at bs 4 5 6 7) ∷ pairs_in (drop 8 bs)
-pairs_more bs h = ap pairs_in (front_8 bs h)
-
--- the pair in front, and what is left, as a slice pattern gives them
-pub split : (bs : List ℕ) (x y : ℤ) → 8 ≤ length bs → x ≡ number_at bs 0 1 2 3 → y ≡ number_at bs 4 5 6 7 → (pairs_in bs ≡ (x, y) ∷ pairs_in (take (length bs - 8) (drop 8 bs))) × (length (take (length bs - 8) (drop 8 bs)) + 8 ≡ length bs)
-split bs x y h e f =
-    let rest = take_rest bs 8 in
-    (pairs_more bs h ∙ sym (λ i. (e i, f i) ∷ pairs_in (rest i)), omega (arith, ap length rest, length-drop 8 bs))
-
--- what holds of fewer than eight bytes, and of eight more, holds of all
-by_eights : (P : List ℕ → Type 0) → ((bs : List ℕ) → length bs < 8 → P bs) → ((a b c d e f g h : ℕ) (bs : List ℕ) → P bs → P (a ∷ b ∷ c ∷ d ∷ e ∷ f ∷ g ∷ h ∷ bs)) → (bs : List ℕ) → P bs
-by_eights P few more [] = few _ (lit< tt)
-by_eights P few more (a ∷ []) = few _ (lit< tt)
-by_eights P few more (a ∷ b ∷ []) = few _ (lit< tt)
-by_eights P few more (a ∷ b ∷ c ∷ []) = few _ (lit< tt)
-by_eights P few more (a ∷ b ∷ c ∷ d ∷ []) = few _ (lit< tt)
-by_eights P few more (a ∷ b ∷ c ∷ d ∷ e ∷ []) = few _ (lit< tt)
-by_eights P few more (a ∷ b ∷ c ∷ d ∷ e ∷ f ∷ []) = few _ (lit< tt)
-by_eights P few more (a ∷ b ∷ c ∷ d ∷ e ∷ f ∷ g ∷ []) = few _ (lit< tt)
-by_eights P few more (a ∷ b ∷ c ∷ d ∷ e ∷ f ∷ g ∷ h ∷ bs) = more a b c d e f g h bs (by_eights P few more bs)
-
--- how many pairs there are
-length_pairs : (bs : List ℕ) → length (pairs_in bs) ≡ length bs / 8
-length_pairs =
-    by_eights (λ bs. length (pairs_in bs) ≡ length bs / 8)
-    (λ bs h. omega (arith, ap length (pairs_none bs h)))
-    (λ a b c d e f g h bs on. omega arith)
+-- the part in front, as its two numbers are read and stored
+pub part_read : {X : Type 0} (of : ℤ × ℤ → X) {bs r : List ℕ} (t : List ℕ) (x y : ℤ) → SFits w32 x → SFits w32 y → bs ≡ signed_four x ++ r → r ≡ signed_four y ++ t → map of (pairs_in bs) ≡ of (to_z w32 (of_z w32 x), to_z w32 (of_z w32 y)) ∷ map of (pairs_in t)
+part_read of t x y h k e f =
+    ap (λ l. map of (pairs_in l)) (e ∙ ap (λ l. signed_four x ++ l) f)
+    ∙ ap (map of) (front_pair x y t h k)
+    ∙ (λ i. of (sym (to_z-of_z w32 x h) i, sym (to_z-of_z w32 y k) i) ∷ map of (pairs_in t))
 
 pub length-parts : {X : Type 0} (of : ℤ × ℤ → X) (bs : List ℕ) → length bs / 8 ≡ length (map of (pairs_in bs))
-length-parts of bs = sym (length-map (pairs_in bs) of ∙ length_pairs bs)
-
--- the pair at a place stands eight bytes on for each before it
-pair_at : (i : ℕ) (bs : List ℕ) → 8 * i + 8 ≤ length bs → slice_get (pairs_in bs) i ≡ slice_get (pairs_in (drop (8 * i) bs)) 0
-pair_at zero bs h = refl
-pair_at (suc i) bs h =
-    let on : 8 + 8 * i ≡ 8 * suc i = omega arith in
-    ap (λ l. slice_get l (suc i)) (pairs_more bs (omega arith))
-    ∙ pair_at i (drop 8 bs) (omega (arith, length-drop 8 bs))
-    ∙ ap (λ l. slice_get (pairs_in l) 0) (drop-drop (8 * i) 8 bs ∙ ap (λ n. drop n bs) on)
-
-pub pair_past : (i : ℕ) (bs : List ℕ) → length bs / 8 ≤ i → None ≡ slice_get (pairs_in bs) i
-pair_past i bs h = sym (slice_get_past (pairs_in bs) i (omega (arith, length_pairs bs)))
-
--- the first pair of what follows, as a slice from there gives it
-pub pair_found : (i : ℕ) (bs : List ℕ) (p : ℤ × ℤ) (ps : List (ℤ × ℤ)) → i < length bs / 8 → pairs_in (take (length bs - 8 * i) (drop (8 * i) bs)) ≡ p ∷ ps → Some p ≡ slice_get (pairs_in bs) i
-pair_found i bs p ps h e =
-    sym (pair_at i bs (omega arith) ∙ ap (λ l. slice_get (pairs_in l) 0) (sym (take_rest bs (8 * i))) ∙ ap (λ l. slice_get l 0) e)
-
--- an entry of a list that was mapped
-pub nth_mapped : {X Y : Type 0} (f : X → Y) (xs : List X) (i : ℕ) (x : X) → Some x ≡ slice_get xs i → Some (f x) ≡ slice_get (map f xs) i
-nth_mapped f [] i x e = absurd (let z : ◌≡◌ {A = ℕ} 0 1 = cc in omega arith)
-nth_mapped f (y ∷ xs) zero x e = let same : x ≡ y = cc in ap (λ v. Some (f v)) same
-nth_mapped f (y ∷ xs) (suc i) x e = nth_mapped f xs i x e
-
-pub nth_mapped_past : {X Y : Type 0} (f : X → Y) (xs : List X) (i : ℕ) → None ≡ slice_get xs i → None ≡ slice_get (map f xs) i
-nth_mapped_past f [] i e = refl
-nth_mapped_past f (y ∷ xs) zero e = absurd (let z : ◌≡◌ {A = ℕ} 0 1 = cc in omega arith)
-nth_mapped_past f (y ∷ xs) (suc i) e = nth_mapped_past f xs i e
+length-parts of bs = sym ((held_parts of).count bs)
 
 -- a number that was read fits its four bytes
 number_fits : (a b c d : ℕ) → a < 256 → b < 256 → c < 256 → d < 256 → SFits w32 (to_z w32 (a * 16777216 + b * 65536 + c * 256 + d))

@@ -1,5 +1,7 @@
 -- The kinds of case records: the tag of each, and how long its field can be.
-use Rattle.std.specs.Prelude.{ℕ, ◌+◌, ◌-◌, ◌*◌, ◌/◌, Bool, true, false, Some, None, Option, ◌==◌, nat_le}
+use Rattle.std.specs.Prelude.{ℕ, ◌+◌, ◌-◌, ◌*◌, ◌/◌, Bool, true, false, Some, None, Option, Result, MatchResult, ◌==◌, nat_le, ◌≡◌}
+use Rattle.fields.specs.declared.fault.FaultKind.{FaultKind}
+use Rattle.fields.specs.declared.fault.FaultKind.TheVariants.{UnknownTag}
 use Rattle.case_fields.specs.declared.kind.RecordKind.{RecordKind}
 use Rattle.case_fields.specs.declared.kind.RecordKind.TheVariants.{Period, Node, Line, EnergyOffer, Bid, RegulationOffer, Requirement}
 
@@ -24,6 +26,10 @@ choose false k o = o
 abbrev pub kind : ℕ → Option RecordKind
 kind t =
     choose (t == 1) Period (choose (t == 2) Node (choose (t == 3) Line (choose (t == 4) EnergyOffer (choose (t == 5) Bid (choose (t == 6) RegulationOffer (choose (t == 15) Requirement None))))))
+
+-- the kind that a tag names is this one, or no kind has the tag
+abbrev pub Names : ℕ → Result RecordKind FaultKind → Type 0
+Names t r = MatchResult r (λ k. Some k ≡ kind t) (λ e. (e ≡ UnknownTag) × (None ≡ kind t))
 
 -- a case has a record of this kind exactly once
 abbrev pub once : RecordKind → Bool

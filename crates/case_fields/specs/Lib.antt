@@ -1,5 +1,6 @@
 pub mod Kinds
 pub mod Parts
+pub mod Held
 pub mod Entries
 pub mod Encoding
 pub mod Tests

@@ -1,9 +1,11 @@
 //! The kinds of case records, each with its tag and its layout.
 ghost use Rattle.std.specs.Prelude.{◌≡◌};
-ghost use Rattle.case_fields.specs.Kinds.{kind, tag_of, once, front, fewest, most, takes};
+ghost use Rattle.case_fields.specs.Kinds.{Names, tag_of, once, front, fewest, most, takes};
 
-/// The kind of a case record.
-#[derive(Clone, Copy, PartialEq, Eq, Debug)]
+use fields::fault::FaultKind;
+
+/// The kind of a case record, in the order of the tags.
+#[derive(Clone, Copy, PartialEq, Eq, PartialOrd, Ord, Debug)]
 pub enum RecordKind {
     Period,
     Node,
@@ -14,23 +16,27 @@ pub enum RecordKind {
     Requirement,
 }
 
-impl RecordKind {
-    /// The kind that a tag names, or none where no case record has the tag.
-    pub fn of(tag: u8) -> Option<RecordKind>
-        ensures { result ≡ kind tag }
-    {
+impl TryFrom<u8> for RecordKind {
+    type Error = FaultKind;
+
+    ghost try_from_gives = { Names };
+
+    /// The kind that a tag names, or the fault where no case record has the tag.
+    fn try_from(tag: u8) -> Result<RecordKind, FaultKind> {
         match tag {
-            1 => Some(RecordKind::Period),
-            2 => Some(RecordKind::Node),
-            3 => Some(RecordKind::Line),
-            4 => Some(RecordKind::EnergyOffer),
-            5 => Some(RecordKind::Bid),
-            6 => Some(RecordKind::RegulationOffer),
-            15 => Some(RecordKind::Requirement),
-            _ => None,
+            1 => Ok(RecordKind::Period),
+            2 => Ok(RecordKind::Node),
+            3 => Ok(RecordKind::Line),
+            4 => Ok(RecordKind::EnergyOffer),
+            5 => Ok(RecordKind::Bid),
+            6 => Ok(RecordKind::RegulationOffer),
+            15 => Ok(RecordKind::Requirement),
+            _ => Err(FaultKind::UnknownTag),
         }
     }
+}
 
+impl RecordKind {
     /// Its tag.
     pub fn tag(self) -> u8
         ensures { result ≡ tag_of self }
@@ -47,17 +53,14 @@ impl RecordKind {
     }
 
     /// Whether a case has it exactly once.
-    pub fn once(self) -> bool
+    pub(crate) fn once(self) -> bool
         ensures { result ≡ once self }
     {
-        match self {
-            RecordKind::Period | RecordKind::Requirement => true,
-            _ => false,
-        }
+        matches!(self, RecordKind::Period | RecordKind::Requirement)
     }
 
     /// The bytes before the points or blocks.
-    pub fn front(self) -> usize
+    pub(crate) fn front(self) -> usize
         ensures { result ≡ front self }
     {
         match self {
@@ -72,7 +75,7 @@ impl RecordKind {
     }
 
     /// The fewest points or blocks.
-    pub fn fewest(self) -> usize
+    pub(crate) fn fewest(self) -> usize
         ensures { result ≡ fewest self }
     {
         match self {
@@ -83,7 +86,7 @@ impl RecordKind {
     }
 
     /// The most points or blocks.
-    pub fn most(self) -> usize
+    pub(crate) fn most(self) -> usize
         ensures { result ≡ most self }
     {
         match self {
@@ -95,14 +98,11 @@ impl RecordKind {
     }
 
     /// Whether a body can be so long.
-    pub fn takes(self, long: usize) -> bool
+    pub(crate) fn takes(self, long: usize) -> bool
         ensures { result ≡ takes self long }
     {
-        let front = self.front();
-        if long < front {
-            return false;
-        }
-        let pairs = (long - front) / 8;
-        front + 8 * pairs == long && self.fewest() <= pairs && pairs <= self.most()
+        long.checked_sub(self.front()).is_some_and(|parts| {
+            parts % 8 == 0 && (self.fewest()..=self.most()).contains(&(parts / 8))
+        })
     }
 }

@@ -1,7 +1,7 @@
 //! The records of a case: one market half hour with its nodes, lines, offers and bids.
 #![tactic(auto)]
 
-mod kind;
+pub mod kind;
 mod parse;
 pub mod part;
 mod range;

@@ -1,130 +1,165 @@
 //! A record from the body of its field.
-ghost use Rattle.std.specs.Prelude.{◌≡◌, ◌-◌, ◌%◌, ◌≤◌, true, length, MatchOption};
+ghost use Rattle.std.specs.Prelude.{◌≡◌, ◌-◌, ◌%◌, ◌≤◌, true, false, length, MatchOption, MatchResult};
+ghost use Rattle.fields.specs.declared.fault.FaultKind.TheVariants.{BadLength};
 ghost use Rattle.case_fields.specs.Kinds.{tag_of, takes};
+ghost use Rattle.case_fields.specs.Meant.{meant, period_meant, node_meant, line_meant, energy_offer_meant, bid_meant, regulation_offer_meant, requirement_meant};
 ghost use Rattle.case_fields.specs.Parsed.{Holds};
 
 use crate::kind::RecordKind;
 use crate::part::{Blocks, Points};
-use crate::record::CaseRecord;
-use fields::number::{split_i32, split_u16, split_u32};
+use crate::record::{
+    Bid, CaseRecord, EnergyOffer, Line, Node, Period, RegulationOffer, Requirement,
+};
+use fields::fault::FaultKind;
+use fields::number::Number;
 
-fn parse_period(body: &[u8]) -> Option<CaseRecord<'_>>
-    requires { length body.now ≡ 8 }
-    ensures { MatchOption result ⊥ (Holds body.now 1) }
-{
-    let (number, rest) = split_u32(body)?;
-    let (allowance, _) = split_i32(rest)?;
-    Some(CaseRecord::Period { number, allowance })
+impl Period {
+    fn parse(body: &[u8]) -> Option<Period>
+        requires { length body.now ≡ 8 }
+        ensures { MatchOption result ⊥ (λ p. Holds body.now 1 (period_meant p)) }
+    {
+        let (number, rest) = u32::split(body)?;
+        let (allowance, _) = i32::split(rest)?;
+        Some(Period { number, allowance })
+    }
 }
 
-fn parse_node(body: &[u8]) -> Option<CaseRecord<'_>>
-    requires { length body.now ≡ 16 }
-    ensures { MatchOption result ⊥ (Holds body.now 2) }
-{
-    let (deficit_maximum, rest) = split_i32(body)?;
-    let (deficit_price, rest) = split_i32(rest)?;
-    let (excess_maximum, rest) = split_i32(rest)?;
-    let (excess_price, _) = split_i32(rest)?;
-    Some(CaseRecord::Node {
-        deficit_maximum,
-        deficit_price,
-        excess_maximum,
-        excess_price,
-    })
+impl Node {
+    fn parse(body: &[u8]) -> Option<Node>
+        requires { length body.now ≡ 16 }
+        ensures { MatchOption result ⊥ (λ n. Holds body.now 2 (node_meant n)) }
+    {
+        let (deficit_maximum, rest) = i32::split(body)?;
+        let (deficit_price, rest) = i32::split(rest)?;
+        let (excess_maximum, rest) = i32::split(rest)?;
+        let (excess_price, _) = i32::split(rest)?;
+        Some(Node {
+            deficit_maximum,
+            deficit_price,
+            excess_maximum,
+            excess_price,
+        })
+    }
 }
 
-fn parse_line(body: &[u8]) -> Option<CaseRecord<'_>>
-    requires { (24 ≤ length body.now) × ((length body.now - 24) % 8 ≡ 0) }
-    ensures { MatchOption result ⊥ (Holds body.now 3) }
-{
-    let (start, rest) = split_u16(body)?;
-    let (end, rest) = split_u16(rest)?;
-    let (forward_limit, rest) = split_i32(rest)?;
-    let (reverse_limit, rest) = split_i32(rest)?;
-    let (admittance, rest) = split_i32(rest)?;
-    let (shift, rest) = split_i32(rest)?;
-    let (violation_price, bytes) = split_i32(rest)?;
-    Some(CaseRecord::Line {
-        start,
-        end,
-        forward_limit,
-        reverse_limit,
-        admittance,
-        shift,
-        violation_price,
-        points: Points { bytes },
-    })
+impl<'a> Line<'a> {
+    fn parse(body: &'a [u8]) -> Option<Line<'a>>
+        requires { (24 ≤ length body.now) × ((length body.now - 24) % 8 ≡ 0) }
+        ensures { MatchOption result ⊥ (λ l. Holds body.now 3 (line_meant l)) }
+    {
+        let (start, rest) = u16::split(body)?;
+        let (end, rest) = u16::split(rest)?;
+        let (forward_limit, rest) = i32::split(rest)?;
+        let (reverse_limit, rest) = i32::split(rest)?;
+        let (admittance, rest) = i32::split(rest)?;
+        let (shift, rest) = i32::split(rest)?;
+        let (violation_price, bytes) = i32::split(rest)?;
+        Some(Line {
+            start,
+            end,
+            forward_limit,
+            reverse_limit,
+            admittance,
+            shift,
+            violation_price,
+            points: Points::new(bytes),
+        })
+    }
 }
 
-fn parse_energy_offer(body: &[u8]) -> Option<CaseRecord<'_>>
-    requires { (14 ≤ length body.now) × ((length body.now - 14) % 8 ≡ 0) }
-    ensures { MatchOption result ⊥ (Holds body.now 4) }
-{
-    let (node, rest) = split_u16(body)?;
-    let (end_minimum, rest) = split_i32(rest)?;
-    let (end_maximum, rest) = split_i32(rest)?;
-    let (violation_price, bytes) = split_i32(rest)?;
-    Some(CaseRecord::EnergyOffer {
-        node,
-        end_minimum,
-        end_maximum,
-        violation_price,
-        blocks: Blocks { bytes },
-    })
+impl<'a> EnergyOffer<'a> {
+    fn parse(body: &'a [u8]) -> Option<EnergyOffer<'a>>
+        requires { (14 ≤ length body.now) × ((length body.now - 14) % 8 ≡ 0) }
+        ensures { MatchOption result ⊥ (λ o. Holds body.now 4 (energy_offer_meant o)) }
+    {
+        let (node, rest) = u16::split(body)?;
+        let (end_minimum, rest) = i32::split(rest)?;
+        let (end_maximum, rest) = i32::split(rest)?;
+        let (violation_price, bytes) = i32::split(rest)?;
+        Some(EnergyOffer {
+            node,
+            end_minimum,
+            end_maximum,
+            violation_price,
+            blocks: Blocks::new(bytes),
+        })
+    }
 }
 
-fn parse_bid(body: &[u8]) -> Option<CaseRecord<'_>>
-    requires { (2 ≤ length body.now) × ((length body.now - 2) % 8 ≡ 0) }
-    ensures { MatchOption result ⊥ (Holds body.now 5) }
-{
-    let (node, bytes) = split_u16(body)?;
-    Some(CaseRecord::Bid {
-        node,
-        blocks: Blocks { bytes },
-    })
+impl<'a> Bid<'a> {
+    fn parse(body: &'a [u8]) -> Option<Bid<'a>>
+        requires { (2 ≤ length body.now) × ((length body.now - 2) % 8 ≡ 0) }
+        ensures { MatchOption result ⊥ (λ b. Holds body.now 5 (bid_meant b)) }
+    {
+        let (node, bytes) = u16::split(body)?;
+        Some(Bid {
+            node,
+            blocks: Blocks::new(bytes),
+        })
+    }
 }
 
-fn parse_regulation_offer(body: &[u8]) -> Option<CaseRecord<'_>>
-    requires { (14 ≤ length body.now) × ((length body.now - 14) % 8 ≡ 0) }
-    ensures { MatchOption result ⊥ (Holds body.now 6) }
-{
-    let (offer, rest) = split_u16(body)?;
-    let (minimum, rest) = split_i32(rest)?;
-    let (maximum, rest) = split_i32(rest)?;
-    let (violation_price, bytes) = split_i32(rest)?;
-    Some(CaseRecord::RegulationOffer {
-        offer,
-        minimum,
-        maximum,
-        violation_price,
-        blocks: Blocks { bytes },
-    })
+impl<'a> RegulationOffer<'a> {
+    fn parse(body: &'a [u8]) -> Option<RegulationOffer<'a>>
+        requires { (14 ≤ length body.now) × ((length body.now - 14) % 8 ≡ 0) }
+        ensures { MatchOption result ⊥ (λ r. Holds body.now 6 (regulation_offer_meant r)) }
+    {
+        let (offer, rest) = u16::split(body)?;
+        let (minimum, rest) = i32::split(rest)?;
+        let (maximum, rest) = i32::split(rest)?;
+        let (violation_price, bytes) = i32::split(rest)?;
+        Some(RegulationOffer {
+            offer,
+            minimum,
+            maximum,
+            violation_price,
+            blocks: Blocks::new(bytes),
+        })
+    }
 }
 
-fn parse_requirement(body: &[u8]) -> Option<CaseRecord<'_>>
-    requires { length body.now ≡ 8 }
-    ensures { MatchOption result ⊥ (Holds body.now 15) }
-{
-    let (requirement, rest) = split_i32(body)?;
-    let (deficit_price, _) = split_i32(rest)?;
-    Some(CaseRecord::Requirement {
-        requirement,
-        deficit_price,
-    })
+impl Requirement {
+    fn parse(body: &[u8]) -> Option<Requirement>
+        requires { length body.now ≡ 8 }
+        ensures { MatchOption result ⊥ (λ q. Holds body.now 15 (requirement_meant q)) }
+    {
+        let (requirement, rest) = i32::split(body)?;
+        let (deficit_price, _) = i32::split(rest)?;
+        Some(Requirement {
+            requirement,
+            deficit_price,
+        })
+    }
 }
 
-/// The record of this kind that a body holds, which is as long as the kind takes.
-pub(crate) fn parse(kind: RecordKind, body: &[u8]) -> Option<CaseRecord<'_>>
-    requires { takes kind (length body.now) ≡ true }
-    ensures { MatchOption result ⊥ (Holds body.now (tag_of kind)) }
-{
-    match kind {
-        RecordKind::Period => parse_period(body),
-        RecordKind::Node => parse_node(body),
-        RecordKind::Line => parse_line(body),
-        RecordKind::EnergyOffer => parse_energy_offer(body),
-        RecordKind::Bid => parse_bid(body),
-        RecordKind::RegulationOffer => parse_regulation_offer(body),
-        RecordKind::Requirement => parse_requirement(body),
+impl<'a> CaseRecord<'a> {
+    /// The record of this kind that a body holds, which is as long as the kind takes.
+    fn parse(kind: RecordKind, body: &'a [u8]) -> Option<CaseRecord<'a>>
+        requires { takes kind (length body.now) ≡ true }
+        ensures { MatchOption result ⊥ (λ r. Holds body.now (tag_of kind) (meant r)) }
+    {
+        Some(match kind {
+            RecordKind::Period => CaseRecord::Period(Period::parse(body)?),
+            RecordKind::Node => CaseRecord::Node(Node::parse(body)?),
+            RecordKind::Line => CaseRecord::Line(Line::parse(body)?),
+            RecordKind::EnergyOffer => CaseRecord::EnergyOffer(EnergyOffer::parse(body)?),
+            RecordKind::Bid => CaseRecord::Bid(Bid::parse(body)?),
+            RecordKind::RegulationOffer => {
+                CaseRecord::RegulationOffer(RegulationOffer::parse(body)?)
+            }
+            RecordKind::Requirement => CaseRecord::Requirement(Requirement::parse(body)?),
+        })
+    }
+
+    /// The record of this kind that a body holds; refused exactly when the kind cannot be so long.
+    pub(crate) fn read(kind: RecordKind, body: &'a [u8]) -> Result<CaseRecord<'a>, FaultKind>
+        ensures { MatchResult result
+            (λ r. (takes kind (length body.now) ≡ true) × Holds body.now (tag_of kind) (meant r))
+            (λ k. (k ≡ BadLength) × (takes kind (length body.now) ≡ false)) }
+    {
+        if !kind.takes(body.len()) {
+            return Err(FaultKind::BadLength);
+        }
+        CaseRecord::parse(kind, body).ok_or(FaultKind::BadLength)
     }
 }

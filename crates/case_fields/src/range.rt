@@ -2,83 +2,87 @@
 ghost use Rattle.std.specs.Prelude.{◌≡◌};
 ghost use Rattle.case_fields.specs.Kinds.{both};
 ghost use Rattle.case_fields.specs.Parts.{blocks_in, points_in};
-ghost use Rattle.case_fields.specs.Meant.{meant};
+ghost use Rattle.case_fields.specs.Meant.{meant, period_meant, node_meant, line_meant, energy_offer_meant, bid_meant, regulation_offer_meant, requirement_meant};
 ghost use Rattle.case_fields.specs.Tests.{is_quantity, is_reverse_limit, is_block_price, is_penalty, is_admittance, is_signed_quantity, blocks_fit, points_fit, in_range};
 
-use crate::part::{Blocks, Points, split_pair};
-use crate::record::CaseRecord;
+use crate::part::{Block, Blocks, Point, Points};
+use crate::record::{
+    Bid, CaseRecord, EnergyOffer, Line, Node, Period, RegulationOffer, Requirement,
+};
 
 /// Whether a number is a quantity, in kilowatts.
 fn is_quantity(z: i32) -> bool
     ensures { result ≡ is_quantity z }
 {
-    0 <= z && z <= 1_000_000
+    (0..=1_000_000).contains(&z)
 }
 
 /// Whether a number is a limit on the flow against a line's direction.
 fn is_reverse_limit(z: i32) -> bool
     ensures { result ≡ is_reverse_limit z }
 {
-    -1_000_000 <= z && z <= 0
+    (-1_000_000..=0).contains(&z)
 }
 
 /// Whether a number is a block's price, in cents per MWh.
 fn is_block_price(z: i32) -> bool
     ensures { result ≡ is_block_price z }
 {
-    -10_000_000 <= z && z <= 10_000_000
+    (-10_000_000..=10_000_000).contains(&z)
 }
 
 /// Whether a number is the price of a violation, a deficit or an excess.
 fn is_penalty(z: i32) -> bool
     ensures { result ≡ is_penalty z }
 {
-    0 <= z && z <= 10_000_000
+    (0..=10_000_000).contains(&z)
 }
 
 /// Whether a number is a line's admittance.
 fn is_admittance(z: i32) -> bool
     ensures { result ≡ is_admittance z }
 {
-    1 <= z && z <= 1_000_000
+    (1..=1_000_000).contains(&z)
 }
 
 /// Whether a number is a line's shift or a point's flow.
 fn is_signed_quantity(z: i32) -> bool
     ensures { result ≡ is_signed_quantity z }
 {
-    -1_000_000 <= z && z <= 1_000_000
+    (-1_000_000..=1_000_000).contains(&z)
 }
 
-/// Whether a block's numbers are in range.
-fn block_in_range(price: i32, maximum: i32) -> bool
-    ensures { result ≡ both (is_block_price price) (is_quantity maximum) }
-{
-    is_block_price(price) && is_quantity(maximum)
+impl Block {
+    /// Whether its numbers are in range.
+    fn is_in_range(self) -> bool
+        ensures { result ≡ both (is_block_price self.price) (is_quantity self.maximum) }
+    {
+        is_block_price(self.price) && is_quantity(self.maximum)
+    }
 }
 
-/// Whether a point's numbers are in range.
-fn point_in_range(flow: i32, loss: i32) -> bool
-    ensures { result ≡ both (is_signed_quantity flow) (is_quantity loss) }
-{
-    is_signed_quantity(flow) && is_quantity(loss)
+impl Point {
+    /// Whether its numbers are in range.
+    fn is_in_range(self) -> bool
+        ensures { result ≡ both (is_signed_quantity self.flow) (is_quantity self.loss) }
+    {
+        is_signed_quantity(self.flow) && is_quantity(self.loss)
+    }
 }
 
 /// Whether each block is in range and the maxima sum to a quantity.
 fn blocks_in_range(blocks: Blocks<'_>) -> bool
     ensures { result ≡ blocks_fit (blocks_in blocks.entry.bytes.now) }
 {
-    let mut rest = blocks.bytes;
     let mut sum = 0u32;
-    while let Some(((price, maximum), after)) = split_pair(rest) {
-        if !block_in_range(price, maximum) {
+    for block in blocks.iter() {
+        if !block.is_in_range() {
             return false;
         }
-        sum += maximum as u32;
+        sum += block.maximum as u32;
         if sum > 1_000_000 {
             return false;
         }
-        rest = after;
     }
     true
 }
@@ -87,62 +91,91 @@ fn blocks_in_range(blocks: Blocks<'_>) -> bool
 fn points_in_range(points: Points<'_>) -> bool
     ensures { result ≡ points_fit (points_in points.entry.bytes.now) }
 {
-    let mut rest = points.bytes;
-    // Below every flow that is in range.
-    let mut last = -1_000_001i32;
-    while let Some(((flow, loss), after)) = split_pair(rest) {
-        if !point_in_range(flow, loss) {
+    let mut last = None;
+    for point in points.iter() {
+        if !point.is_in_range() || last.is_some_and(|flow| point.flow <= flow) {
             return false;
         }
-        if flow <= last {
-            return false;
-        }
-        last = flow;
-        rest = after;
+        last = Some(point.flow);
     }
     true
 }
 
-/// Whether a node's numbers are in range.
-fn node_in_range(
-    deficit_maximum: i32,
-    deficit_price: i32,
-    excess_maximum: i32,
-    excess_price: i32,
-) -> bool
-    ensures { result ≡ both (is_quantity deficit_maximum) (both (is_penalty deficit_price) (both (is_quantity excess_maximum) (is_penalty excess_price))) }
-{
-    is_quantity(deficit_maximum)
-        && is_penalty(deficit_price)
-        && is_quantity(excess_maximum)
-        && is_penalty(excess_price)
+impl Period {
+    /// Whether its numbers are in range.
+    fn is_in_range(self) -> bool
+        ensures { result ≡ in_range (period_meant self) }
+    {
+        is_quantity(self.allowance)
+    }
 }
 
-/// Whether the limits on a line's flow are in range.
-fn limits_in_range(forward_limit: i32, reverse_limit: i32) -> bool
-    ensures { result ≡ both (is_quantity forward_limit) (is_reverse_limit reverse_limit) }
-{
-    is_quantity(forward_limit) && is_reverse_limit(reverse_limit)
+impl Node {
+    /// Whether its numbers are in range.
+    fn is_in_range(self) -> bool
+        ensures { result ≡ in_range (node_meant self) }
+    {
+        is_quantity(self.deficit_maximum)
+            && is_penalty(self.deficit_price)
+            && is_quantity(self.excess_maximum)
+            && is_penalty(self.excess_price)
+    }
 }
 
-/// Whether a line's numbers besides the limits are in range, and its points in order.
-fn line_in_range(admittance: i32, shift: i32, violation_price: i32, points: Points<'_>) -> bool
-    ensures { result ≡ both (is_admittance admittance) (both (is_signed_quantity shift) (both (is_penalty violation_price) (points_fit (points_in points.entry.bytes.now)))) }
-{
-    is_admittance(admittance)
-        && is_signed_quantity(shift)
-        && is_penalty(violation_price)
-        && points_in_range(points)
+impl Line<'_> {
+    /// Whether its numbers are in range, and its points in order.
+    fn is_in_range(self) -> bool
+        ensures { result ≡ in_range (line_meant self.entry) }
+    {
+        is_quantity(self.forward_limit)
+            && is_reverse_limit(self.reverse_limit)
+            && is_admittance(self.admittance)
+            && is_signed_quantity(self.shift)
+            && is_penalty(self.violation_price)
+            && points_in_range(self.points)
+    }
 }
 
-/// Whether an offer's numbers and blocks are in range.
-fn offer_in_range(minimum: i32, maximum: i32, violation_price: i32, blocks: Blocks<'_>) -> bool
-    ensures { result ≡ both (is_quantity minimum) (both (is_quantity maximum) (both (is_penalty violation_price) (blocks_fit (blocks_in blocks.entry.bytes.now)))) }
-{
-    is_quantity(minimum)
-        && is_quantity(maximum)
-        && is_penalty(violation_price)
-        && blocks_in_range(blocks)
+impl EnergyOffer<'_> {
+    /// Whether its numbers and blocks are in range.
+    fn is_in_range(self) -> bool
+        ensures { result ≡ in_range (energy_offer_meant self.entry) }
+    {
+        is_quantity(self.end_minimum)
+            && is_quantity(self.end_maximum)
+            && is_penalty(self.violation_price)
+            && blocks_in_range(self.blocks)
+    }
+}
+
+impl Bid<'_> {
+    /// Whether its blocks are in range.
+    fn is_in_range(self) -> bool
+        ensures { result ≡ in_range (bid_meant self.entry) }
+    {
+        blocks_in_range(self.blocks)
+    }
+}
+
+impl RegulationOffer<'_> {
+    /// Whether its numbers and blocks are in range.
+    fn is_in_range(self) -> bool
+        ensures { result ≡ in_range (regulation_offer_meant self.entry) }
+    {
+        is_quantity(self.minimum)
+            && is_quantity(self.maximum)
+            && is_penalty(self.violation_price)
+            && blocks_in_range(self.blocks)
+    }
+}
+
+impl Requirement {
+    /// Whether its numbers are in range.
+    fn is_in_range(self) -> bool
+        ensures { result ≡ in_range (requirement_meant self) }
+    {
+        is_quantity(self.requirement) && is_penalty(self.deficit_price)
+    }
 }
 
 impl CaseRecord<'_> {
@@ -151,44 +184,13 @@ impl CaseRecord<'_> {
         ensures { result ≡ in_range (meant self.entry) }
     {
         match self {
-            CaseRecord::Period { allowance, .. } => is_quantity(allowance),
-            CaseRecord::Node {
-                deficit_maximum,
-                deficit_price,
-                excess_maximum,
-                excess_price,
-            } => node_in_range(deficit_maximum, deficit_price, excess_maximum, excess_price),
-            CaseRecord::Line {
-                forward_limit,
-                reverse_limit,
-                admittance,
-                shift,
-                violation_price,
-                points,
-                ..
-            } => {
-                limits_in_range(forward_limit, reverse_limit)
-                    && line_in_range(admittance, shift, violation_price, points)
-            }
-            CaseRecord::EnergyOffer {
-                end_minimum,
-                end_maximum,
-                violation_price,
-                blocks,
-                ..
-            } => offer_in_range(end_minimum, end_maximum, violation_price, blocks),
-            CaseRecord::Bid { blocks, .. } => blocks_in_range(blocks),
-            CaseRecord::RegulationOffer {
-                minimum,
-                maximum,
-                violation_price,
-                blocks,
-                ..
-            } => offer_in_range(minimum, maximum, violation_price, blocks),
-            CaseRecord::Requirement {
-                requirement,
-                deficit_price,
-            } => { is_quantity(requirement) && is_penalty(deficit_price) }
+            CaseRecord::Period(period) => period.is_in_range(),
+            CaseRecord::Node(node) => node.is_in_range(),
+            CaseRecord::Line(line) => line.is_in_range(),
+            CaseRecord::EnergyOffer(offer) => offer.is_in_range(),
+            CaseRecord::Bid(bid) => bid.is_in_range(),
+            CaseRecord::RegulationOffer(offer) => offer.is_in_range(),
+            CaseRecord::Requirement(requirement) => requirement.is_in_range(),
         }
     }
 }

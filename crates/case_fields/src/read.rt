@@ -11,7 +11,6 @@ ghost use Rattle.case_fields.specs.Read.{Next};
 ghost use Rattle.case_fields.specs.Summaries.{SumsUp};
 
 use crate::kind::RecordKind;
-use crate::parse::parse;
 use crate::record::CaseRecord;
 use crate::summary::Summary;
 use fields::fault::{FaultKind, FieldFault, ReadError};
@@ -28,18 +27,11 @@ fn next_record<'a>(
         (λ k. First (checks case_format es input.now) k) }
 {
     let (field, rest) = cut_field(input)?;
-    let Some(kind) = RecordKind::of(field.tag) else {
-        return Err(FaultKind::UnknownTag);
-    };
-    if !before.lets_follow(kind, field.tag) {
+    let kind = RecordKind::try_from(field.tag)?;
+    if !before.lets_follow(kind) {
         return Err(FaultKind::TagOrder);
     }
-    if !kind.takes(field.body.len()) {
-        return Err(FaultKind::BadLength);
-    }
-    let Some(record) = parse(kind, field.body) else {
-        return Err(FaultKind::BadLength);
-    };
+    let record = CaseRecord::read(kind, field.body)?;
     if !record.is_in_range() {
         return Err(FaultKind::OutOfRange);
     }
@@ -59,10 +51,7 @@ fn record_at<'a>(
         (λ p. Next es input.now (meant p.0) p.1.now)
         (λ e. (e.offset ≡ offset) × First (checks case_format es input.now) e.kind) }
 {
-    match next_record(before, input) {
-        Ok(next) => Ok(next),
-        Err(kind) => Err(FieldFault { kind, offset }),
-    }
+    next_record(before, input).map_err(|kind| FieldFault { kind, offset })
 }
 
 /// The records of the input, one field after the other.
@@ -72,18 +61,16 @@ fn read_records<'a>(heap: Global, input: &'a [u8]) -> Result<Vec<CaseRecord<'a>>
     let mut records = Vec::new(heap);
     let mut before = Summary::new(heap);
     let mut rest = input;
-    let mut offset = 0usize;
     while !rest.is_empty() {
-        let (record, after) = record_at(&before, rest, offset)?;
+        let (record, after) = record_at(&before, rest, input.len() - rest.len())?;
         before.note(record)?;
         records.push(record)?;
-        offset += rest.len() - after.len();
         rest = after;
     }
     if !before.is_complete() {
         return Err(ReadError::Field(FieldFault {
             kind: FaultKind::TagOrder,
-            offset,
+            offset: input.len(),
         }));
     }
     Ok(records)

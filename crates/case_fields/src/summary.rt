@@ -1,11 +1,18 @@
 //! What the records read so far say for those that follow.
+use crate::kind::RecordKind;
+
+/// The kinds of the first and of the last of some records.
+#[derive(Clone, Copy, PartialEq, Eq)]
+struct Ends {
+    first: RecordKind,
+    last: RecordKind,
+}
+
 /// What is kept of the records read so far, so that tag and references of a new record are judged in constant time.
 #[derive(Drop)]
 pub struct Summary {
-    /// The tag of the last record, nought before the first.
-    last_tag: u8,
-    has_period: bool,
-    has_requirement: bool,
+    /// None before the first record. As tags never fall, the ends tell whether a period or a requirement was read.
+    ends: Option<Ends>,
     nodes: usize,
     /// For each energy offer, whether a regulation offer names it.
     regulated: Vec<bool>,

@@ -31,6 +31,7 @@ pub fn outcome_of<'a>(heap: Global, input: &'a [u8]) -> Result<Outcome<'a>, Allo
     match read_case(heap, input) {
         Ok(records) => Ok(Outcome::Case(records)),
         Err(ReadError::Field(fault)) => Ok(Outcome::CaseRefused(fault)),
+        // Kept: `ReadError::Memory` holds no `AllocError` to hand on; with one, the clauses `e ≡ Memory` of its public callers would change.
         Err(ReadError::Memory) => Err(AllocError),
     }
 }

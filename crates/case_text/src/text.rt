@@ -1,11 +1,14 @@
 //! The text of a case, a line for each record.
 use crate::outcome::Outcome;
-use case_fields::part::{Blocks, Points};
-use case_fields::record::CaseRecord;
+use case_fields::kind::RecordKind;
+use case_fields::record::{
+    Bid, CaseRecord, EnergyOffer, Line, Node, Period, RegulationOffer, Requirement,
+};
+use fields::sequence::{Element, Sequence};
 use std::fmt;
 
 /// How many records of each kind came so far.
-#[derive(Clone, Copy, Drop)]
+#[derive(Clone, Copy, Default)]
 struct Counts {
     nodes: usize,
     lines: usize,
@@ -15,62 +18,29 @@ struct Counts {
 }
 
 impl Counts {
-    fn new() -> Counts {
-        Counts {
-            nodes: 0,
-            lines: 0,
-            energy_offers: 0,
-            bids: 0,
-            regulation_offers: 0,
-        }
-    }
-
-    /// The number of a record among those of its kind, or nought where a case has one of the kind.
-    fn of(&self, record: CaseRecord<'_>) -> usize {
-        match record {
-            CaseRecord::Node { .. } => self.nodes,
-            CaseRecord::Line { .. } => self.lines,
-            CaseRecord::EnergyOffer { .. } => self.energy_offers,
-            CaseRecord::Bid { .. } => self.bids,
-            CaseRecord::RegulationOffer { .. } => self.regulation_offers,
-            CaseRecord::Period { .. } | CaseRecord::Requirement { .. } => 0,
-        }
-    }
-
-    fn note(&mut self, record: CaseRecord<'_>) {
-        match record {
-            CaseRecord::Node { .. } => self.nodes = self.nodes.saturating_add(1),
-            CaseRecord::Line { .. } => self.lines = self.lines.saturating_add(1),
-            CaseRecord::EnergyOffer { .. } => self.energy_offers = self
-                .energy_offers
-                .saturating_add(1),
-            CaseRecord::Bid { .. } => self.bids = self.bids.saturating_add(1),
-            CaseRecord::RegulationOffer { .. } => {
-                self.regulation_offers = self.regulation_offers.saturating_add(1)
-            }
-            CaseRecord::Period { .. } | CaseRecord::Requirement { .. } => {}
-        }
+    /// The number of the next record of a kind among those of the kind, or nought where a case has one.
+    fn next(&mut self, kind: RecordKind) -> usize {
+        let count = match kind {
+            RecordKind::Node => &mut self.nodes,
+            RecordKind::Line => &mut self.lines,
+            RecordKind::EnergyOffer => &mut self.energy_offers,
+            RecordKind::Bid => &mut self.bids,
+            RecordKind::RegulationOffer => &mut self.regulation_offers,
+            RecordKind::Period | RecordKind::Requirement => return 0,
+        };
+        let number = *count;
+        *count = number.saturating_add(1);
+        number
     }
 }
 
-fn show_blocks<W: fmt::Write>(blocks: Blocks<'_>, f: &mut fmt::Formatter<W>) -> fmt::Result {
-    for i in 0..blocks.len() {
-        if let Some(block) = blocks.get(i) {
-            let price = block.price;
-            let maximum = block.maximum;
-            write!(f, "; block of {maximum} kW at {price} cents per MWh")?;
-        }
-    }
-    Ok(())
-}
-
-fn show_points<W: fmt::Write>(points: Points<'_>, f: &mut fmt::Formatter<W>) -> fmt::Result {
-    for i in 0..points.len() {
-        if let Some(point) = points.get(i) {
-            let flow = point.flow;
-            let loss = point.loss;
-            write!(f, "; point of {flow} kW losing {loss} kW")?;
-        }
+/// Shows the blocks or points of a record.
+fn show_parts<T: Element + fmt::Display, W: fmt::Write>(
+    parts: Sequence<'_, T>,
+    f: &mut fmt::Formatter<W>,
+) -> fmt::Result {
+    for part in parts.iter() {
+        write!(f, "; {part}")?;
     }
     Ok(())
 }
@@ -86,73 +56,83 @@ impl fmt::Display for Numbered<'_> {
     fn fmt<W: fmt::Write>(&self, f: &mut fmt::Formatter<W>) -> fmt::Result {
         let number = self.number;
         match self.record {
-            CaseRecord::Period { number, allowance } => {
+            CaseRecord::Period(Period { number, allowance }) => {
                 write!(
                     f,
                     "period {number}: allowance {allowance} in the unit of each widened row"
                 )
             }
-            CaseRecord::Node {
-                deficit_maximum,
-                deficit_price,
-                excess_maximum,
-                excess_price,
-            } => {
+            CaseRecord::Node(
+                Node {
+                    deficit_maximum,
+                    deficit_price,
+                    excess_maximum,
+                    excess_price,
+                },
+            ) => {
                 write!(
                     f,
                     "node {number}: deficit up to {deficit_maximum} kW at {deficit_price} cents per MWh; excess up to {excess_maximum} kW at {excess_price} cents per MWh"
                 )
             }
-            CaseRecord::Line {
-                start,
-                end,
-                forward_limit,
-                reverse_limit,
-                admittance,
-                shift,
-                violation_price,
-                points,
-            } => {
+            CaseRecord::Line(
+                Line {
+                    start,
+                    end,
+                    forward_limit,
+                    reverse_limit,
+                    admittance,
+                    shift,
+                    violation_price,
+                    points,
+                },
+            ) => {
                 write!(
                     f,
                     "line {number}: from node {start} to node {end}; flow {reverse_limit} to {forward_limit} kW; admittance {admittance} W/µrad; shift {shift} µrad; violation at {violation_price} cents per MWh"
                 )?;
-                show_points(points, f)
+                show_parts(points, f)
             }
-            CaseRecord::EnergyOffer {
-                node,
-                end_minimum,
-                end_maximum,
-                violation_price,
-                blocks,
-            } => {
+            CaseRecord::EnergyOffer(
+                EnergyOffer {
+                    node,
+                    end_minimum,
+                    end_maximum,
+                    violation_price,
+                    blocks,
+                },
+            ) => {
                 write!(
                     f,
                     "energy offer {number}: at node {node}; end {end_minimum} to {end_maximum} kW; violation at {violation_price} cents per MWh"
                 )?;
-                show_blocks(blocks, f)
+                show_parts(blocks, f)
             }
-            CaseRecord::Bid { node, blocks } => {
+            CaseRecord::Bid(Bid { node, blocks }) => {
                 write!(f, "bid {number}: at node {node}")?;
-                show_blocks(blocks, f)
+                show_parts(blocks, f)
             }
-            CaseRecord::RegulationOffer {
-                offer,
-                minimum,
-                maximum,
-                violation_price,
-                blocks,
-            } => {
+            CaseRecord::RegulationOffer(
+                RegulationOffer {
+                    offer,
+                    minimum,
+                    maximum,
+                    violation_price,
+                    blocks,
+                },
+            ) => {
                 write!(
                     f,
                     "regulation offer {number}: on energy offer {offer}; regulating {minimum} to {maximum} kW; violation at {violation_price} cents per MWh"
                 )?;
-                show_blocks(blocks, f)
+                show_parts(blocks, f)
             }
-            CaseRecord::Requirement {
-                requirement,
-                deficit_price,
-            } => {
+            CaseRecord::Requirement(
+                Requirement {
+                    requirement,
+                    deficit_price,
+                },
+            ) => {
                 write!(
                     f,
                     "requirement: {requirement} kW; deficit at {deficit_price} cents per MWh"
@@ -167,14 +147,13 @@ pub fn show_case<W: fmt::Write>(
     records: &[CaseRecord<'_>],
     f: &mut fmt::Formatter<W>,
 ) -> fmt::Result {
-    let mut counts = Counts::new();
+    let mut counts = Counts::default();
     for record in records {
         let line = Numbered {
-            number: counts.of(*record),
+            number: counts.next(record.kind()),
             record: *record,
         };
         writeln!(f, "{line}")?;
-        counts.note(*record);
     }
     let Counts {
         nodes,

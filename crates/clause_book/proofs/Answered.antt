@@ -1,7 +1,8 @@
 -- What opening answers is the book of the case that the bytes are or the fault that they have, and they have no other.
-use Rattle.std.proofs.Common.{◌≡◌, ℕ, ◌<◌, true, false, ◌&&◌, leb, ◌⊎◌, List, [], ◌∷◌, map, length, Ok, Err, Result, sym, refl, ap, ◌∙◌, subst, inl, inr, ⊎_elim, arith, MatchResult}
+use Rattle.std.proofs.Common.{◌≡◌, ℕ, ◌<◌, true, false, ◌&&◌, ◌⊎◌, List, map, length, Ok, Err, Result, sym, refl, ap, ◌∙◌, subst, inl, inr, ⊎_elim, arith, MatchResult}
+use Rattle.std.specs.List.{list_all}
 use Rattle.std.proofs.lemmas.List.{length-map}
-use Rattle.std.proofs.lemmas.Bool.{cases_Bool, both_ways, lt-leb, and_left, and_right, and_cases, and_parts}
+use Rattle.std.proofs.lemmas.Bool.{cases_Bool, both_ways, lt-leb, and_left, and_parts}
 use Rattle.fields.specs.Files.{IsFile, Told as Field-told}
 use Rattle.fields.specs.declared.fault.ReadError.{ReadError}
 use Rattle.fields.specs.declared.fault.ReadError.TheVariants.{Memory as NoMemory, Field as BadField}
@@ -9,23 +10,23 @@ use Rattle.fields.proofs.Laws.{one_reading, never_both, one_fault}
 use Rattle.case_fields.specs.Entries.{Entry}
 use Rattle.case_fields.specs.Cases.{case_format}
 use Rattle.case_fields.proofs.Lawful.{lawful}
-use Rattle.listing_fields.specs.Tests.{terms_refer, terms_rise}
 use Rattle.books.specs.declared.fault.BookFault.{BookFault}
 use Rattle.books.specs.declared.fault.BookFault.TheVariants.{Field, TooLarge, NoRoom, UnfitRow, ShortBuffer}
 use Rattle.books.specs.declared.fault.BookError.{BookError}
 use Rattle.books.specs.declared.fault.BookError.TheVariants.{Memory, Fault}
 use Rattle.books.specs.Faults.{book_error}
 use Rattle.books.specs.Lists.{FullRow}
-use Rattle.books.specs.Conditions.{every, few, sound, sound_column, sound_sides, sound_terms, sound_row}
+use Rattle.books.specs.Conditions.{every, few, sound, sound_column, sound_row}
 use Rattle.case_columns.specs.declared.name.Named.{Named}
 use Rattle.case_columns.specs.Columns.{columns}
 use Rattle.clauses.specs.Rows.{row_of}
+use Rattle.clauses.specs.Stored.{holds_row}
 use Rattle.clauses.specs.Clauses.{clauses}
 use Rattle.clause_book.specs.declared.book.ClauseBook.{ClauseBook}
 use Rattle.clause_book.specs.CaseLists.{lists_of, case_lists}
 use Rattle.clause_book.specs.Books.{clause_lists, named_in}
-use Rattle.clause_book.specs.Drafting.{ranged}
 use Rattle.clause_book.specs.Opening.{BookOf, Opened, IsTooLarge, ToldFault, Told}
+use Rattle.clause_book.proofs.Held.{out_of_range}
 use Rattle.clause_book.proofs.Sounded.{case_sound}
 use Rattle.clause_book.proofs.Numbering.{numbered}
 
@@ -144,17 +145,8 @@ assembled_built es cs rs n p q (Ok b) h = record { lists = h.0 ∙ lists_built e
 assembled_built es cs rs n p q (Err e) (inl h) = inl h
 assembled_built es cs rs n p q (Err e) (inr h) = inr (h.0, ap sound (sym (lists_built es cs rs p q)) ∙ h.1)
 
--- lists with a term out of range do not keep the conditions
-pub out_of_range : (cs : List Named) (rs : List FullRow) → every ranged rs ≡ false → sound (lists_of cs rs) ≡ false
-unfolding sound
-out_of_range cs rs h = and_right (few (lists_of cs rs) && every sound_column (map (λ (c : Named). c.column) cs)) _ (rows_out (length (map (λ (c : Named). c.column) cs)) rs h)
-  where
-    row_out : (n : ℕ) (r : FullRow) → ranged r ≡ false → sound_row n r ≡ false
-    row_out n r e =
-        and_right (leb r.code 19 && sound_sides r) (sound_terms n r)
-        (and_left (ranged r && terms_refer n r.terms) (terms_rise 0 r.terms) (and_left (ranged r) (terms_refer n r.terms) e))
-
-    rows_out : (n : ℕ) (xs : List FullRow) → every ranged xs ≡ false → every (sound_row n) xs ≡ false
-    rows_out n [] e = e
-    rows_out n (r ∷ xs) e =
-        ⊎_elim (λ x. and_left (sound_row n r) (every (sound_row n) xs) (row_out n r x)) (λ x. and_right (sound_row n r) (every (sound_row n) xs) (rows_out n xs x)) (and_cases (ranged r) (every ranged xs) e)
+-- rows that are out of range are those of lists that do not keep the conditions
+pub rows_refused : (es : List Entry) (cs : List Named) (n : ℕ) (e : BookError) → cs ≡ columns es → (e ≡ Memory) ⊎ ((e ≡ Fault (TooLarge n)) × (list_all holds_row (map (row_of cs) (clauses es)) ≡ false)) → (e ≡ Memory) ⊎ ((e ≡ Fault (TooLarge n)) × (sound (case_lists es) ≡ false))
+rows_refused es cs n e p (inl h) = inl h
+rows_refused es cs n e p (inr h) =
+    inr (h.0, ap sound (sym (lists_built es cs (map (row_of cs) (clauses es)) p refl)) ∙ out_of_range cs (map (row_of cs) (clauses es)) h.1)

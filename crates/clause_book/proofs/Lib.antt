@@ -6,6 +6,6 @@ pub mod TermLaws
 pub mod Loads
 pub mod SoundRows
 pub mod Sounded
-pub mod Gathering
+pub mod Held
 pub mod Numbering
 pub mod Answered

@@ -10,7 +10,7 @@ use Rattle.books.specs.Conditions.{every}
 use Rattle.books.proofs.Sounds.{every_append}
 use Rattle.case_columns.specs.Spread.{spread}
 
-leZ_true : (x y : ℤ) → le_z x y ≡ true → x ≤ℤ y
+pub leZ_true : (x y : ℤ) → le_z x y ≡ true → x ≤ℤ y
 leZ_true x y e = omega (arith, ints)
 
 leZ_from : (x y : ℤ) → x ≤ℤ y → le_z x y ≡ true

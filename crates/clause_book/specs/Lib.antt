@@ -1,5 +1,4 @@
 pub mod CaseLists
 pub mod Books
-pub mod Drafting
 pub mod Numbered
 pub mod Opening

@@ -7,6 +7,8 @@ use Rattle.books.specs.declared.fault.BookFault.{BookFault}
 use Rattle.books.specs.declared.fault.BookFault.TheVariants.{Field, TooLarge, NoRoom, UnfitRow, ShortBuffer}
 use Rattle.books.specs.declared.fault.BookError.{BookError}
 use Rattle.books.specs.declared.fault.BookError.TheVariants.{Memory, Fault}
+use Rattle.clauses.specs.declared.error.ClauseError.{ClauseError}
+use Rattle.clauses.specs.declared.error.ClauseError.TheVariants as clause_error
 use Rattle.books.specs.Conditions.{few}
 use Rattle.case_columns.specs.Columns.{columns}
 use Rattle.clause_book.specs.declared.book.ClauseBook.{ClauseBook}
@@ -43,3 +45,8 @@ ToldFault bs (ShortBuffer n) = ⊥
 abbrev pub Told : List ℕ → BookError → Type 0
 Told bs Memory = Unit {0}
 Told bs (Fault f) = ToldFault bs f
+
+-- what is told where the rows of a case of so many bytes were not made
+abbrev pub rows_told : ℕ → ClauseError → BookError
+rows_told n clause_error.Memory = Memory
+rows_told n clause_error.OutOfRange = Fault (TooLarge n)

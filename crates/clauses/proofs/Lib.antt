@@ -1,6 +1,6 @@
 pub mod Items
 pub mod Walks
-pub mod Storage
 pub mod Products
-pub mod Chains
 pub mod Single
+pub mod Fails
+pub mod Steps

@@ -1,8 +1,11 @@
 -- The terms from a column on.
-use Rattle.std.proofs.Common.{◌≡◌, ℕ, zero, suc, ◌+◌, ◌-◌, ◌<◌, ◌≤◌, false, List, [], ◌∷◌, ◌++◌, length, get_or, drop, ℤ, pos, negsuc, sym, refl, ap, ◌∙◌, append_assoc, arith, ne_eqb}
+use Rattle.std.proofs.Common.{◌≡◌, ℕ, zero, suc, ◌+◌, ◌-◌, ◌<◌, ◌≤◌, Bool, true, false, List, [], ◌∷◌, ◌++◌, length, get_or, drop, ℤ, pos, negsuc, sym, refl, ap, ◌∙◌, append_assoc, arith, ne_eqb}
 use Rattle.std.proofs.lemmas.List.{drop_more, drop_all, append-nil}
+use Rattle.std.proofs.lemmas.Bool.{and_left}
+use Rattle.std.specs.List.{list_all}
 use Rattle.listing_fields.specs.declared.term.Term.{Term}
 use Rattle.clauses.specs.Terms.{nought, kept, terms_from}
+use Rattle.clauses.proofs.Fails.{fails_within}
 
 some : {X : Type 0} (xs : List X) → 0 < length xs → X
 some [] h = absurd (omega arith)
@@ -47,6 +50,11 @@ module _ {X : Type 0} (f : X → ℤ) (xs : List X) where
         step
         ∙ ap (λ b. out ++ kept b (record { column = n; coefficient = c }) (terms_from (n + 1) f (drop (n + 1) xs))) (some_nought c z)
         ∙ sym (append_assoc out ((record { column = n; coefficient = c }) ∷ []) (terms_from (n + 1) f (drop (n + 1) xs)))
+
+    -- where it is listed and a test fails of it, the test fails of one
+    pub held_out : (c ≡ pos 0 → ⊥) → (p : Term → Bool) → p (record { column = n; coefficient = c }) ≡ false → list_all p whole ≡ false
+    held_out z p h =
+        ap (list_all p) (listed z ∙ append_assoc out ((record { column = n; coefficient = c }) ∷ []) _) ∙ fails_within p out ((record { column = n; coefficient = c }) ∷ []) _ (and_left (p (record { column = n; coefficient = c })) true h)
 
     pub passed : c ≡ pos 0 → whole ≡ out ++ terms_from (n + 1) f (drop (n + 1) xs)
     passed z = step ∙ ap (λ b. out ++ kept (nought b) (record { column = n; coefficient = b }) (terms_from (n + 1) f (drop (n + 1) xs))) z

@@ -1,10 +1,8 @@
--- Clauses, their rows, and rows as they are stored.
-use Rattle.std.specs.Prelude.{ℕ, ◌+◌, ◌<◌, ◌≤◌, List, map, length, take, drop, ℤ, ◌+ℤ◌, ◌-ℤ◌, Some, None, Option, slice_index_or}
-use Rattle.listing_fields.specs.declared.term.Term.{Term}
+-- Clauses and their rows.
+use Rattle.std.specs.Prelude.{ℕ, List, ℤ, ◌+ℤ◌, ◌-ℤ◌, Some, None, Option}
 use Rattle.books.specs.Lists.{FullRow}
 use Rattle.case_columns.specs.declared.name.Named.{Named}
 use Rattle.clauses.specs.declared.sum.Item.{Item}
-use Rattle.clauses.specs.declared.head.Head.{Head}
 use Rattle.clauses.specs.Sums.{sum as summed}
 use Rattle.clauses.specs.Terms.{terms as terms_of}
 
@@ -34,15 +32,3 @@ at_least c z s = record { code = c; lower = Some z; upper = None; sum = s }
 -- the sum is at most a number
 abbrev pub at_most : ℕ → ℤ → List Item → Clause
 at_most c z s = record { code = c; lower = None; upper = Some z; sum = s }
-
--- a stored row with its terms
-abbrev pub stored : List Term → Head → FullRow
-stored ts h = record { code = h.code; lower = h.lower; upper = h.upper; terms = take h.count (drop h.start ts) }
-
--- all stored rows
-abbrev pub stored_rows : List Head → List Term → List FullRow
-stored_rows hs ts = map (stored ts) hs
-
--- each row's terms stand in the list
-abbrev pub Inside : List Head → List Term → Type 0
-Inside hs ts = (i : ℕ) (d : Head) → i < length hs → (slice_index_or hs i d).start + (slice_index_or hs i d).count ≤ length ts

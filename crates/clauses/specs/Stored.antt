@@ -1,14 +1,34 @@
--- What stored rows hold.
-use Rattle.std.specs.Prelude.{◌≡◌, List, ◌++◌, map, vec_items}
+-- What stored rows hold, and when a clause or several have no rows.
+use Rattle.std.specs.Prelude.{◌≡◌, false, Bool, ◌&&◌, List, map, pos, neg_ℤ, int_le, nat_lt, vec_items, Vec, Result, MatchResult}
+use Rattle.std.specs.List.{list_all}
+use Rattle.std.specs.declared.alloc.Global.{Global}
+use Rattle.listing_fields.specs.declared.term.Term.{Term}
 use Rattle.books.specs.Lists.{FullRow}
+use Rattle.stored_book.specs.declared.row.StoredRow.{StoredRow}
+use Rattle.stored_book.specs.Stored.{full_row}
 use Rattle.case_columns.specs.declared.name.Named.{Named}
-use Rattle.clauses.specs.declared.rows.Rows.{Rows}
-use Rattle.clauses.specs.Rows.{Clause, row_of, stored_rows}
+use Rattle.clauses.specs.declared.error.ClauseError.{ClauseError}
+use Rattle.clauses.specs.declared.error.ClauseError.TheVariants.{OutOfRange}
+use Rattle.clauses.specs.Rows.{Clause, row_of}
 
 -- the rows, in order
-abbrev pub rows_in : Rows → List FullRow
-rows_in r = stored_rows (vec_items r.heads) (vec_items r.terms)
+abbrev pub rows_in : Vec StoredRow Global → List FullRow
+rows_in v = map full_row (vec_items v)
 
--- the second rows are the first with the rows of these clauses behind them
-pub record Adds (cs : List Named) (r s : Rows) (ds : List Clause) : Type 0 where
-  pub rows : rows_in s ≡ rows_in r ++ map (row_of cs) ds
+-- a term holds 16 bits for the number of its column and 32 for its coefficient
+abbrev pub holds : Term → Bool
+holds t =
+    nat_lt t.column 65536 && (int_le (neg_ℤ (pos 2147483648)) t.coefficient && int_le t.coefficient (pos 2147483647))
+
+-- and so do all terms of a row
+abbrev pub holds_row : FullRow → Bool
+holds_row r = list_all holds r.terms
+
+-- the row of a clause; where it is out of range, it has a term that is
+abbrev pub Makes : List Named → Clause → Result StoredRow ClauseError → Type 0
+Makes cs d r = MatchResult r (λ s. full_row s ≡ row_of cs d) (λ e. e ≡ OutOfRange → holds_row (row_of cs d) ≡ false)
+
+-- the rows of clauses; where one is out of range, it has a term that is
+abbrev pub MakesAll : List Named → List Clause → Result (Vec StoredRow Global) ClauseError → Type 0
+MakesAll cs ds r =
+    MatchResult r (λ v. rows_in v ≡ map (row_of cs) ds) (λ e. e ≡ OutOfRange → list_all holds_row (map (row_of cs) ds) ≡ false)

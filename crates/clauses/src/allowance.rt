@@ -10,7 +10,7 @@ fn allowance_in(given: CaseRecord<'_>) -> Option<i32>
     ensures { result ≡ allowance_in (meant given.entry) }
 {
     match given {
-        CaseRecord::Period { allowance, .. } => Some(allowance),
+        CaseRecord::Period(period) => Some(period.allowance),
         _ => None,
     }
 }

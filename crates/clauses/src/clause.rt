@@ -1,376 +1,332 @@
 //! The row of each clause.
-ghost use Rattle.std.specs.Prelude.{◌≡◌, [], ◌∷◌, pos, OnOk};
+ghost use Rattle.std.specs.Prelude.{◌≡◌, pos, ◌*ℤ◌, neg_ℤ, ◌≤ℤ◌};
+ghost use Rattle.case_columns.specs.Kinds.{at};
 ghost use Rattle.case_columns.specs.Tables.{columns_in};
-ghost use Rattle.clauses.specs.Settings.{Small};
-ghost use Rattle.clauses.specs.Stored.{Adds};
-ghost use Rattle.clauses.specs.Clauses.{node_flows, node_trade, weighed_flow, d_16_1_1, d_16_1_2, d_16_2_1, d_16_2_2, d_16_2_3, d_16_3_1, d_16_3_2, d_16_3_3, d_15_1_2, d_19_1_1, d_19_1_2, d_15_2_2, d_18_1_2, d_18_1_3, d_18_1_4, d_18_1_5, d_18_2_1};
+ghost use Rattle.case_columns.specs.declared.name.Quantity.TheVariants.{Angle, Generation};
+ghost use Rattle.clauses.specs.Stored.{Makes};
+ghost use Rattle.clauses.specs.Clauses.{the, item as item_of, flows_item, losses_item, node_flows, node_trade, weighed_flow, d_16_1_1, d_16_1_2, d_16_2_1, d_16_2_2, d_16_2_3, d_16_3_1, d_16_3_2, d_16_3_3, d_15_1_2, d_19_1_1, d_19_1_2, d_15_2_2, d_18_1_2, d_18_1_3, d_18_1_4, d_18_1_5, d_18_2_1};
 
-use crate::item::{ending, every, minus_flows, minus_losses, minus_own, own, starting};
-use crate::product::product;
-use crate::rows::Rows;
-use crate::setting::Setting;
-use crate::side::{about, at_least, at_most, equal};
-use crate::sum::Item;
+use crate::error::ClauseError;
+use crate::item::{ending, every, starting, the};
+use crate::row::Clauses;
+use crate::sum::{Factor, Item};
 use case_columns::name::Quantity;
-use case_columns::table::Table;
-use std::alloc::AllocError;
+use case_fields::record::{EnergyOffer, Line, RegulationOffer, Requirement};
+use stored_book::row::StoredRow;
 
-/// What flows into a node and out of it.
-fn node_flows(setting: Setting) -> [Item; 5]
-    requires { Small setting }
-    ensures { result ≡ node_flows setting }
+/// The product of two numbers, which 64 bits hold.
+fn product(a: i32, b: i32) -> i64
+    ensures value { result ≡ a *ℤ b }
+    ensures low { neg_ℤ (pos 4611686018427387904) ≤ℤ result }
+    ensures high { result ≤ℤ pos 4611686018427387904 }
 {
-    let lines = setting.kinds.lines;
-    let place = setting.place;
-    [
-        own(2, Quantity::Injection, place),
-        starting(-2, Quantity::Flow, lines, place),
-        ending(2, Quantity::Flow, lines, place),
-        starting(-1, Quantity::Loss, lines, place),
-        ending(-1, Quantity::Loss, lines, place),
-    ]
+    i64::from(a) * i64::from(b)
 }
 
-/// What is generated and bought at a node.
-fn node_trade(setting: Setting) -> [Item; 5]
-    requires { Small setting }
-    ensures { result ≡ node_trade setting }
-{
-    let place = setting.place;
-    [
-        own(1, Quantity::Injection, place),
-        starting(-1, Quantity::Generation, setting.kinds.offers, place),
-        starting(1, Quantity::Purchase, setting.kinds.bids, place),
-        own(-1, Quantity::Deficit, place),
-        own(1, Quantity::Excess, place),
-    ]
-}
+impl Clauses<'_> {
+    /// A number times the record's own columns of a quantity.
+    fn own(self, c: i32, quantity: Quantity) -> Item
+        ensures { result ≡ item_of c (the quantity self.entry.setting.place) }
+    {
+        Item {
+            factor: Factor::Number(c),
+            pick: the(quantity, self.setting.place),
+        }
+    }
 
-/// How far the flow of a line is from what the weights of its points give.
-fn weighed_flow(setting: Setting) -> [Item; 4]
-    requires { Small setting }
-    ensures { result ≡ weighed_flow setting }
-{
-    let place = setting.place;
-    [
-        own(100_000, Quantity::Flow, place),
-        own(-100_000, Quantity::ShortW, place),
-        own(100_000, Quantity::OverW, place),
-        minus_flows(place),
-    ]
-}
+    /// Minus the line's Weights, each times its point's flow.
+    fn minus_flows(self) -> Item
+        ensures { result ≡ flows_item self.entry.setting.place }
+    {
+        Item {
+            factor: Factor::MinusFlow,
+            pick: the(Quantity::Weight, self.setting.place),
+        }
+    }
 
-/// Power balance at a node, seen from its lines.
-pub(crate) fn d_16_1_1(rows: &mut Rows, table: &Table, setting: Setting) -> Result<(), AllocError>
-    requires { Small setting }
-    ensures { OnOk result (Adds (columns_in table.now) rows.old rows.new (d_16_1_1 setting ∷ [])) }
-{
-    about(rows, table, 1, setting.allowance, 0, &node_flows(setting))
-}
+    /// Minus the line's Weights, each times its point's loss.
+    fn minus_losses(self) -> Item
+        ensures { result ≡ losses_item self.entry.setting.place }
+    {
+        Item {
+            factor: Factor::MinusLoss,
+            pick: the(Quantity::Weight, self.setting.place),
+        }
+    }
 
-/// Power balance at a node, seen from its offers and bids.
-pub(crate) fn d_16_1_2(rows: &mut Rows, table: &Table, setting: Setting) -> Result<(), AllocError>
-    requires { Small setting }
-    ensures { OnOk result (Adds (columns_in table.now) rows.old rows.new (d_16_1_2 setting ∷ [])) }
-{
-    equal(rows, table, 2, 0, &node_trade(setting))
-}
+    /// A factor times the Angle of the node of a number.
+    fn angle(self, factor: Factor, node: u16) -> Item
+        ensures { result ≡ record { factor = factor; pick = the Angle (at self.entry.setting.kinds.nodes node) } }
+    {
+        let place = self.setting.kinds.nodes.first + usize::from(node);
+        Item {
+            factor,
+            pick: the(Quantity::Angle, place),
+        }
+    }
 
-/// The reverse limit of a line.
-pub(crate) fn d_16_2_1(
-    rows: &mut Rows,
-    table: &Table,
-    setting: Setting,
-    reverse_limit: i32,
-) -> Result<(), AllocError>
-    requires { Small setting }
-    ensures { OnOk result (Adds (columns_in table.now) rows.old rows.new (d_16_2_1 setting reverse_limit ∷ [])) }
-{
-    at_least(
-        rows,
-        table,
-        3,
-        reverse_limit as i64,
-        &[
-            own(1, Quantity::Flow, setting.place),
-            own(1, Quantity::OverReverse, setting.place),
-        ],
-    )
-}
+    /// The Generation of the energy offer of a number.
+    fn generation(self, offer: u16) -> Item
+        ensures { result ≡ item_of (pos 1) (the Generation (at self.entry.setting.kinds.offers offer)) }
+    {
+        let place = self.setting.kinds.offers.first + usize::from(offer);
+        Item {
+            factor: Factor::Number(1),
+            pick: the(Quantity::Generation, place),
+        }
+    }
 
-/// The forward limit of a line.
-pub(crate) fn d_16_2_2(
-    rows: &mut Rows,
-    table: &Table,
-    setting: Setting,
-    forward_limit: i32,
-) -> Result<(), AllocError>
-    requires { Small setting }
-    ensures { OnOk result (Adds (columns_in table.now) rows.old rows.new (d_16_2_2 setting forward_limit ∷ [])) }
-{
-    at_most(
-        rows,
-        table,
-        4,
-        forward_limit as i64,
-        &[
-            own(1, Quantity::Flow, setting.place),
-            own(-1, Quantity::OverForward, setting.place),
-        ],
-    )
-}
+    /// What flows into a node and out of it.
+    fn node_flows(self) -> [Item; 5]
+        ensures { result ≡ node_flows self.entry.setting }
+    {
+        let lines = self.setting.kinds.lines;
+        let place = self.setting.place;
+        [
+            self.own(2, Quantity::Injection),
+            starting(-2, Quantity::Flow, lines, place),
+            ending(2, Quantity::Flow, lines, place),
+            starting(-1, Quantity::Loss, lines, place),
+            ending(-1, Quantity::Loss, lines, place),
+        ]
+    }
 
-/// The flow of a line by the angles at its ends.
-pub(crate) fn d_16_2_3(
-    rows: &mut Rows,
-    table: &Table,
-    setting: Setting,
-    start: u16,
-    end: u16,
-    admittance: i32,
-    shift: i32,
-) -> Result<(), AllocError>
-    requires { Small setting }
-    ensures { OnOk result (Adds (columns_in table.now) rows.old rows.new (d_16_2_3 setting start end admittance shift ∷ [])) }
-{
-    let start = setting.kinds.nodes.first + start as usize;
-    let end = setting.kinds.nodes.first + end as usize;
-    about(
-        rows,
-        table,
-        5,
-        setting.allowance,
-        product(admittance, shift),
-        &[
-            own(1000, Quantity::Flow, setting.place),
-            minus_own(admittance, Quantity::Angle, start),
-            own(admittance, Quantity::Angle, end),
-        ],
-    )
-}
+    /// What is generated and bought at a node.
+    fn node_trade(self) -> [Item; 5]
+        ensures { result ≡ node_trade self.entry.setting }
+    {
+        let kinds = self.setting.kinds;
+        let place = self.setting.place;
+        [
+            self.own(1, Quantity::Injection),
+            starting(-1, Quantity::Generation, kinds.offers, place),
+            starting(1, Quantity::Purchase, kinds.bids, place),
+            self.own(-1, Quantity::Deficit),
+            self.own(1, Quantity::Excess),
+        ]
+    }
 
-/// The flow of a line by the weights of its points.
-pub(crate) fn d_16_3_1(rows: &mut Rows, table: &Table, setting: Setting) -> Result<(), AllocError>
-    requires { Small setting }
-    ensures { OnOk result (Adds (columns_in table.now) rows.old rows.new (d_16_3_1 setting ∷ [])) }
-{
-    about(rows, table, 6, setting.allowance, 0, &weighed_flow(setting))
-}
+    /// How far the flow of a line is from what the weights of its points give.
+    fn weighed_flow(self) -> [Item; 4]
+        ensures { result ≡ weighed_flow self.entry.setting }
+    {
+        [
+            self.own(100_000, Quantity::Flow),
+            self.own(-100_000, Quantity::ShortW),
+            self.own(100_000, Quantity::OverW),
+            self.minus_flows(),
+        ]
+    }
 
-/// The loss of a line by the weights of its points.
-pub(crate) fn d_16_3_2(rows: &mut Rows, table: &Table, setting: Setting) -> Result<(), AllocError>
-    requires { Small setting }
-    ensures { OnOk result (Adds (columns_in table.now) rows.old rows.new (d_16_3_2 setting ∷ [])) }
-{
-    about(
-        rows,
-        table,
-        7,
-        setting.allowance,
-        0,
-        &[
-            own(100_000, Quantity::Loss, setting.place),
-            minus_losses(setting.place),
-        ],
-    )
-}
+    /// Power balance at a node, seen from its lines.
+    pub(crate) fn d_16_1_1(self) -> Result<StoredRow, ClauseError>
+        ensures { Makes (columns_in self.entry.table.now) (d_16_1_1 self.entry.setting) result }
+    {
+        self.about(1, 0, &self.node_flows())
+    }
 
-/// The weights of a line's points make one.
-pub(crate) fn d_16_3_3(rows: &mut Rows, table: &Table, setting: Setting) -> Result<(), AllocError>
-    requires { Small setting }
-    ensures { OnOk result (Adds (columns_in table.now) rows.old rows.new (d_16_3_3 setting ∷ [])) }
-{
-    equal(
-        rows,
-        table,
-        8,
-        100_000,
-        &[own(1, Quantity::Weight, setting.place)],
-    )
-}
+    /// Power balance at a node, seen from its offers and bids.
+    pub(crate) fn d_16_1_2(self) -> Result<StoredRow, ClauseError>
+        ensures { Makes (columns_in self.entry.table.now) (d_16_1_2 self.entry.setting) result }
+    {
+        self.equal(2, 0, &self.node_trade())
+    }
 
-/// A generation by its blocks.
-pub(crate) fn d_15_1_2(rows: &mut Rows, table: &Table, setting: Setting) -> Result<(), AllocError>
-    requires { Small setting }
-    ensures { OnOk result (Adds (columns_in table.now) rows.old rows.new (d_15_1_2 setting ∷ [])) }
-{
-    equal(
-        rows,
-        table,
-        9,
-        0,
-        &[
-            own(1, Quantity::Generation, setting.place),
-            own(-1, Quantity::OfferBlock, setting.place),
-        ],
-    )
-}
+    /// The reverse limit of a line.
+    pub(crate) fn d_16_2_1(self, line: Line<'_>) -> Result<StoredRow, ClauseError>
+        ensures { Makes (columns_in self.entry.table.now) (d_16_2_1 self.entry.setting line.entry.reverse_limit) result }
+    {
+        self.at_least(
+            3,
+            i64::from(line.reverse_limit),
+            &[
+                self.own(1, Quantity::Flow),
+                self.own(1, Quantity::OverReverse),
+            ],
+        )
+    }
 
-/// The end maximum of an energy offer.
-pub(crate) fn d_19_1_1(
-    rows: &mut Rows,
-    table: &Table,
-    setting: Setting,
-    end_maximum: i32,
-) -> Result<(), AllocError>
-    requires { Small setting }
-    ensures { OnOk result (Adds (columns_in table.now) rows.old rows.new (d_19_1_1 setting end_maximum ∷ [])) }
-{
-    at_most(
-        rows,
-        table,
-        12,
-        end_maximum as i64,
-        &[
-            own(1, Quantity::Generation, setting.place),
-            own(-1, Quantity::OverUp, setting.place),
-        ],
-    )
-}
+    /// The forward limit of a line.
+    pub(crate) fn d_16_2_2(self, line: Line<'_>) -> Result<StoredRow, ClauseError>
+        ensures { Makes (columns_in self.entry.table.now) (d_16_2_2 self.entry.setting line.entry.forward_limit) result }
+    {
+        self.at_most(
+            4,
+            i64::from(line.forward_limit),
+            &[
+                self.own(1, Quantity::Flow),
+                self.own(-1, Quantity::OverForward),
+            ],
+        )
+    }
 
-/// The end minimum of an energy offer.
-pub(crate) fn d_19_1_2(
-    rows: &mut Rows,
-    table: &Table,
-    setting: Setting,
-    end_minimum: i32,
-) -> Result<(), AllocError>
-    requires { Small setting }
-    ensures { OnOk result (Adds (columns_in table.now) rows.old rows.new (d_19_1_2 setting end_minimum ∷ [])) }
-{
-    at_least(
-        rows,
-        table,
-        13,
-        end_minimum as i64,
-        &[
-            own(1, Quantity::Generation, setting.place),
-            own(1, Quantity::OverDown, setting.place),
-        ],
-    )
-}
+    /// The flow of a line by the angles at its ends.
+    pub(crate) fn d_16_2_3(self, line: Line<'_>) -> Result<StoredRow, ClauseError>
+        ensures { Makes (columns_in self.entry.table.now) (d_16_2_3 self.entry.setting line.entry.start line.entry.end line.entry.admittance line.entry.shift) result }
+    {
+        self.about(
+            5,
+            product(line.admittance, line.shift),
+            &[
+                self.own(1000, Quantity::Flow),
+                self.angle(Factor::Minus(line.admittance), line.start),
+                self.angle(Factor::Number(line.admittance), line.end),
+            ],
+        )
+    }
 
-/// A purchase by its blocks.
-pub(crate) fn d_15_2_2(rows: &mut Rows, table: &Table, setting: Setting) -> Result<(), AllocError>
-    requires { Small setting }
-    ensures { OnOk result (Adds (columns_in table.now) rows.old rows.new (d_15_2_2 setting ∷ [])) }
-{
-    equal(
-        rows,
-        table,
-        14,
-        0,
-        &[
-            own(1, Quantity::Purchase, setting.place),
-            own(-1, Quantity::BidBlock, setting.place),
-        ],
-    )
-}
+    /// The flow of a line by the weights of its points.
+    pub(crate) fn d_16_3_1(self) -> Result<StoredRow, ClauseError>
+        ensures { Makes (columns_in self.entry.table.now) (d_16_3_1 self.entry.setting) result }
+    {
+        self.about(6, 0, &self.weighed_flow())
+    }
 
-/// A regulation by its blocks.
-pub(crate) fn d_18_1_2(rows: &mut Rows, table: &Table, setting: Setting) -> Result<(), AllocError>
-    requires { Small setting }
-    ensures { OnOk result (Adds (columns_in table.now) rows.old rows.new (d_18_1_2 setting ∷ [])) }
-{
-    equal(
-        rows,
-        table,
-        15,
-        0,
-        &[
-            own(1, Quantity::Regulation, setting.place),
-            own(-1, Quantity::RegulationBlock, setting.place),
-        ],
-    )
-}
+    /// The loss of a line by the weights of its points.
+    pub(crate) fn d_16_3_2(self) -> Result<StoredRow, ClauseError>
+        ensures { Makes (columns_in self.entry.table.now) (d_16_3_2 self.entry.setting) result }
+    {
+        self.about(
+            7,
+            0,
+            &[self.own(100_000, Quantity::Loss), self.minus_losses()],
+        )
+    }
 
-/// The maximum of a regulation offer, if its switch is 1.
-pub(crate) fn d_18_1_3(
-    rows: &mut Rows,
-    table: &Table,
-    setting: Setting,
-    offer: u16,
-    maximum: i32,
-) -> Result<(), AllocError>
-    requires { Small setting }
-    ensures { OnOk result (Adds (columns_in table.now) rows.old rows.new (d_18_1_3 setting offer maximum ∷ [])) }
-{
-    let unit = setting.kinds.offers.first + offer as usize;
-    at_most(
-        rows,
-        table,
-        16,
-        maximum as i64 + 1_000_000,
-        &[
-            own(1, Quantity::Generation, unit),
-            own(1, Quantity::Regulation, setting.place),
-            own(-1, Quantity::OverReg, setting.place),
-            own(1_000_000, Quantity::Switch, setting.place),
-        ],
-    )
-}
+    /// The weights of a line's points make one.
+    pub(crate) fn d_16_3_3(self) -> Result<StoredRow, ClauseError>
+        ensures { Makes (columns_in self.entry.table.now) (d_16_3_3 self.entry.setting) result }
+    {
+        self.equal(8, 100_000, &[self.own(1, Quantity::Weight)])
+    }
 
-/// The minimum of a regulation offer, if its switch is 1.
-pub(crate) fn d_18_1_4(
-    rows: &mut Rows,
-    table: &Table,
-    setting: Setting,
-    offer: u16,
-    minimum: i32,
-) -> Result<(), AllocError>
-    requires { Small setting }
-    ensures { OnOk result (Adds (columns_in table.now) rows.old rows.new (d_18_1_4 setting offer minimum ∷ [])) }
-{
-    let unit = setting.kinds.offers.first + offer as usize;
-    at_least(
-        rows,
-        table,
-        17,
-        minimum as i64 - 1_000_000,
-        &[
-            own(1, Quantity::Generation, unit),
-            own(-1, Quantity::Regulation, setting.place),
-            own(1, Quantity::ShortReg, setting.place),
-            own(-1_000_000, Quantity::Switch, setting.place),
-        ],
-    )
-}
+    /// A generation by its blocks.
+    pub(crate) fn d_15_1_2(self) -> Result<StoredRow, ClauseError>
+        ensures { Makes (columns_in self.entry.table.now) (d_15_1_2 self.entry.setting) result }
+    {
+        self.equal(
+            9,
+            0,
+            &[
+                self.own(1, Quantity::Generation),
+                self.own(-1, Quantity::OfferBlock),
+            ],
+        )
+    }
 
-/// No regulation if the switch is 0.
-pub(crate) fn d_18_1_5(rows: &mut Rows, table: &Table, setting: Setting) -> Result<(), AllocError>
-    requires { Small setting }
-    ensures { OnOk result (Adds (columns_in table.now) rows.old rows.new (d_18_1_5 setting ∷ [])) }
-{
-    at_most(
-        rows,
-        table,
-        18,
-        0,
-        &[
-            own(1, Quantity::Regulation, setting.place),
-            own(-1_000_000, Quantity::Switch, setting.place),
-        ],
-    )
-}
+    /// The end maximum of an energy offer.
+    pub(crate) fn d_19_1_1(self, offer: EnergyOffer<'_>) -> Result<StoredRow, ClauseError>
+        ensures { Makes (columns_in self.entry.table.now) (d_19_1_1 self.entry.setting offer.entry.end_maximum) result }
+    {
+        self.at_most(
+            12,
+            i64::from(offer.end_maximum),
+            &[
+                self.own(1, Quantity::Generation),
+                self.own(-1, Quantity::OverUp),
+            ],
+        )
+    }
 
-/// The regulation that the half hour requires.
-pub(crate) fn d_18_2_1(
-    rows: &mut Rows,
-    table: &Table,
-    setting: Setting,
-    requirement: i32,
-) -> Result<(), AllocError>
-    requires { Small setting }
-    ensures { OnOk result (Adds (columns_in table.now) rows.old rows.new (d_18_2_1 setting requirement ∷ [])) }
-{
-    at_least(
-        rows,
-        table,
-        19,
-        requirement as i64,
-        &[
-            every(1, Quantity::Regulation, setting.kinds.regulations),
-            own(1, Quantity::ShortRequirement, setting.place),
-        ],
-    )
+    /// The end minimum of an energy offer.
+    pub(crate) fn d_19_1_2(self, offer: EnergyOffer<'_>) -> Result<StoredRow, ClauseError>
+        ensures { Makes (columns_in self.entry.table.now) (d_19_1_2 self.entry.setting offer.entry.end_minimum) result }
+    {
+        self.at_least(
+            13,
+            i64::from(offer.end_minimum),
+            &[
+                self.own(1, Quantity::Generation),
+                self.own(1, Quantity::OverDown),
+            ],
+        )
+    }
+
+    /// A purchase by its blocks.
+    pub(crate) fn d_15_2_2(self) -> Result<StoredRow, ClauseError>
+        ensures { Makes (columns_in self.entry.table.now) (d_15_2_2 self.entry.setting) result }
+    {
+        self.equal(
+            14,
+            0,
+            &[
+                self.own(1, Quantity::Purchase),
+                self.own(-1, Quantity::BidBlock),
+            ],
+        )
+    }
+
+    /// A regulation by its blocks.
+    pub(crate) fn d_18_1_2(self) -> Result<StoredRow, ClauseError>
+        ensures { Makes (columns_in self.entry.table.now) (d_18_1_2 self.entry.setting) result }
+    {
+        self.equal(
+            15,
+            0,
+            &[
+                self.own(1, Quantity::Regulation),
+                self.own(-1, Quantity::RegulationBlock),
+            ],
+        )
+    }
+
+    /// The maximum of a regulation offer, if its switch is 1.
+    pub(crate) fn d_18_1_3(self, given: RegulationOffer<'_>) -> Result<StoredRow, ClauseError>
+        ensures { Makes (columns_in self.entry.table.now) (d_18_1_3 self.entry.setting given.entry.offer given.entry.maximum) result }
+    {
+        self.at_most(
+            16,
+            i64::from(given.maximum) + 1_000_000,
+            &[
+                self.generation(given.offer),
+                self.own(1, Quantity::Regulation),
+                self.own(-1, Quantity::OverReg),
+                self.own(1_000_000, Quantity::Switch),
+            ],
+        )
+    }
+
+    /// The minimum of a regulation offer, if its switch is 1.
+    pub(crate) fn d_18_1_4(self, given: RegulationOffer<'_>) -> Result<StoredRow, ClauseError>
+        ensures { Makes (columns_in self.entry.table.now) (d_18_1_4 self.entry.setting given.entry.offer given.entry.minimum) result }
+    {
+        self.at_least(
+            17,
+            i64::from(given.minimum) - 1_000_000,
+            &[
+                self.generation(given.offer),
+                self.own(-1, Quantity::Regulation),
+                self.own(1, Quantity::ShortReg),
+                self.own(-1_000_000, Quantity::Switch),
+            ],
+        )
+    }
+
+    /// No regulation if the switch is 0.
+    pub(crate) fn d_18_1_5(self) -> Result<StoredRow, ClauseError>
+        ensures { Makes (columns_in self.entry.table.now) (d_18_1_5 self.entry.setting) result }
+    {
+        self.at_most(
+            18,
+            0,
+            &[
+                self.own(1, Quantity::Regulation),
+                self.own(-1_000_000, Quantity::Switch),
+            ],
+        )
+    }
+
+    /// The regulation that the half hour requires.
+    pub(crate) fn d_18_2_1(self, needed: Requirement) -> Result<StoredRow, ClauseError>
+        ensures { Makes (columns_in self.entry.table.now) (d_18_2_1 self.entry.setting needed.requirement) result }
+    {
+        self.at_least(
+            19,
+            i64::from(needed.requirement),
+            &[
+                every(1, Quantity::Regulation, self.setting.kinds.regulations),
+                self.own(1, Quantity::ShortRequirement),
+            ],
+        )
+    }
 }

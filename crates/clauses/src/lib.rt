@@ -4,13 +4,11 @@
 pub mod allowance;
 pub mod build;
 pub mod clause;
-pub mod head;
+pub mod error;
 pub mod item;
 pub mod lists;
-pub mod product;
-pub mod rows;
+mod row;
 pub mod setting;
-pub mod side;
 pub mod sum;
 pub mod walk;
 pub mod weigh;

@@ -8,21 +8,22 @@ ghost use Rattle.clauses.specs.Stored.{rows_in};
 ghost use Rattle.clauses.specs.Clauses.{clauses};
 
 use crate::build::rows_of;
-use crate::rows::Rows;
+use crate::error::ClauseError;
 use case_columns::build::table_of;
 use case_columns::table::Table;
 use case_fields::record::CaseRecord;
-use std::alloc::{AllocError, Global};
+use std::alloc::Global;
+use stored_book::row::StoredRow;
 
 /// The columns and rows of a case.
 #[derive(Drop)]
 pub struct CaseLists {
     pub table: Table,
-    pub rows: Rows,
+    pub rows: Vec<StoredRow>,
 }
 
 /// The columns of a case, and its rows over them.
-pub fn lists_of(heap: Global, records: &[CaseRecord<'_>]) -> Result<CaseLists, AllocError>
+pub fn lists_of(heap: Global, records: &[CaseRecord<'_>]) -> Result<CaseLists, ClauseError>
     ensures columns { IfOk result (λ l. columns_in l.table ≡ columns (map meant records.now)) }
     ensures rows { IfOk result (λ l. rows_in l.rows ≡ map (row_of (columns (map meant records.now))) (clauses (map meant records.now))) }
 {

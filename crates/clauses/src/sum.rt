@@ -2,7 +2,7 @@
 use case_columns::name::Quantity;
 
 /// Where the columns that count are.
-#[derive(Clone, Copy)]
+#[derive(Clone, Copy, PartialEq, Eq, Debug)]
 pub enum Ends {
     /// Anywhere.
     Any,
@@ -13,7 +13,7 @@ pub enum Ends {
 }
 
 /// The columns of a quantity, of the records from the place `first` to before `past`.
-#[derive(Clone, Copy)]
+#[derive(Clone, Copy, PartialEq, Eq, Debug)]
 pub struct Pick {
     pub quantity: Quantity,
     pub first: usize,
@@ -22,7 +22,7 @@ pub struct Pick {
 }
 
 /// What each of them is multiplied by.
-#[derive(Clone, Copy)]
+#[derive(Clone, Copy, PartialEq, Eq, Debug)]
 pub enum Factor {
     /// A number.
     Number(i32),
@@ -35,7 +35,7 @@ pub enum Factor {
 }
 
 /// A part of a sum: some columns, each times its factor.
-#[derive(Clone, Copy)]
+#[derive(Clone, Copy, PartialEq, Eq, Debug)]
 pub struct Item {
     pub factor: Factor,
     pub pick: Pick,

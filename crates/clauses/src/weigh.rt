@@ -1,5 +1,5 @@
 //! The coefficient of a column in a sum.
-ghost use Rattle.std.specs.Prelude.{◌≡◌, ◌≤◌, length, pos, neg_ℤ, ◌≤ℤ◌};
+ghost use Rattle.std.specs.Prelude.{◌≡◌, pos, neg_ℤ, ◌≤ℤ◌};
 ghost use Rattle.clauses.specs.Sums.{at_ends, picks, factor as factor_of, amount as amount_of, coefficient as all_amounts};
 
 use crate::sum::{Ends, Factor, Item, Pick};
@@ -22,7 +22,7 @@ fn is_picked(pick: Pick, name: Name) -> bool
 {
     pick.first <= name.place
         && name.place < pick.past
-        && name.quantity as u8 == pick.quantity as u8
+        && name.quantity == pick.quantity
         && is_at(pick.ends, name)
 }
 
@@ -33,10 +33,10 @@ fn multiple(factor: Factor, name: Name) -> i64
     ensures high { result ≤ℤ pos 2147483648 }
 {
     match factor {
-        Factor::Number(c) => c as i64,
-        Factor::Minus(c) => -(c as i64),
-        Factor::MinusFlow => -(name.flow as i64),
-        Factor::MinusLoss => -(name.loss as i64),
+        Factor::Number(c) => i64::from(c),
+        Factor::Minus(c) => -i64::from(c),
+        Factor::MinusFlow => -i64::from(name.flow),
+        Factor::MinusLoss => -i64::from(name.loss),
     }
 }
 
@@ -53,14 +53,13 @@ fn amount(item: Item, name: Name) -> i64
     }
 }
 
-/// The coefficient of a column in a sum of at most 8 items.
-pub(crate) fn coefficient(items: &[Item], name: Name) -> i64
-    requires { length items.now ≤ 8 }
+/// The coefficient of a column in a sum.
+pub(crate) fn coefficient(items: &[Item], name: Name) -> i128
     ensures { result ≡ all_amounts items.now name }
 {
-    let mut sum = 0i64;
+    let mut sum = 0;
     for item in items {
-        sum += amount(*item, name);
+        sum += i128::from(amount(*item, name));
     }
     sum
 }

@@ -4,3 +4,4 @@ pub mod Standings
 pub mod Labels
 pub mod Runs
 pub mod Docketed
+pub mod Texts

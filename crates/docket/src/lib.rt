@@ -5,5 +5,6 @@ pub mod docket;
 mod judge;
 pub mod run;
 pub mod standing;
+pub mod text;
 pub mod theorem;
 pub mod verdict;

@@ -1,18 +1,15 @@
 //! How many blocks and points stand in so many bytes.
 use case_fields::part::{Blocks, Points};
+use fields::sequence::{Element, Sequence};
 use std::process::Abort;
 
 /// A number of bytes, and how many whole pairs of numbers they hold.
 const SIZES: [(usize, usize); 5] = [(0, 0), (7, 0), (8, 1), (15, 1), (16, 2)];
 
-fn check_blocks(rt: &impl Abort, blocks: Blocks<'_>, count: usize) {
-    assert_eq!(rt; blocks.len(), count);
-    assert!(rt; blocks.get(count).is_none());
-}
-
-fn check_points(rt: &impl Abort, points: Points<'_>, count: usize) {
-    assert_eq!(rt; points.len(), count);
-    assert!(rt; points.get(count).is_none());
+/// Checks how many elements there are, and that none stands behind the last.
+fn check_count<T: Element + Drop>(rt: &impl Abort, elements: Sequence<'_, T>, count: usize) {
+    assert_eq!(rt; elements.len(), count);
+    assert!(rt; elements.get(count).is_none());
 }
 
 #[test]
@@ -21,7 +18,7 @@ fn counts_whole_pairs(rt: HostRuntime) {
     for (size, count) in SIZES {
         assert!(rt; size <= 16);
         let bytes = &zeros[0..size];
-        check_blocks(&rt, Blocks { bytes }, count);
-        check_points(&rt, Points { bytes }, count);
+        check_count(&rt, Blocks::new(bytes), count);
+        check_count(&rt, Points::new(bytes), count);
     }
 }

@@ -1,6 +1,6 @@
 //! Records in plain numbers, held against tables.
 use case_fields::read::read_case;
-use case_fields::record::CaseRecord;
+use case_fields::record::{Bid, CaseRecord, EnergyOffer, RegulationOffer};
 use std::alloc::Global;
 use std::process::Abort;
 use std::test::Fail;
@@ -14,89 +14,67 @@ pub type Pair = (usize, usize, i32, i32);
 /// The head of a record, with noughts where its kind has fewer numbers.
 fn head(of: CaseRecord<'_>) -> Head {
     match of {
-        CaseRecord::Period { number, allowance } => (1, [number, 0], [allowance, 0, 0, 0, 0], 0),
-        CaseRecord::Node {
-            deficit_maximum,
-            deficit_price,
-            excess_maximum,
-            excess_price,
-        } => (
+        CaseRecord::Period(period) => (1, [period.number, 0], [period.allowance, 0, 0, 0, 0], 0),
+        CaseRecord::Node(node) => (
             2,
             [0, 0],
             [
-                deficit_maximum,
-                deficit_price,
-                excess_maximum,
-                excess_price,
+                node.deficit_maximum,
+                node.deficit_price,
+                node.excess_maximum,
+                node.excess_price,
                 0,
             ],
             0,
         ),
-        CaseRecord::Line {
-            start,
-            end,
-            forward_limit,
-            reverse_limit,
-            admittance,
-            shift,
-            violation_price,
-            points,
-        } => (
+        CaseRecord::Line(line) => (
             3,
-            [start as u32, end as u32],
+            [line.start as u32, line.end as u32],
             [
-                forward_limit,
-                reverse_limit,
-                admittance,
-                shift,
-                violation_price,
+                line.forward_limit,
+                line.reverse_limit,
+                line.admittance,
+                line.shift,
+                line.violation_price,
             ],
-            points.len(),
+            line.points.len(),
         ),
-        CaseRecord::EnergyOffer {
-            node,
-            end_minimum,
-            end_maximum,
-            violation_price,
-            blocks,
-        } => (
+        CaseRecord::EnergyOffer(offer) => (
             4,
-            [node as u32, 0],
-            [end_minimum, end_maximum, violation_price, 0, 0],
-            blocks.len(),
+            [offer.node as u32, 0],
+            [
+                offer.end_minimum,
+                offer.end_maximum,
+                offer.violation_price,
+                0,
+                0,
+            ],
+            offer.blocks.len(),
         ),
-        CaseRecord::Bid { node, blocks } => (5, [node as u32, 0], [0, 0, 0, 0, 0], blocks.len()),
-        CaseRecord::RegulationOffer {
-            offer,
-            minimum,
-            maximum,
-            violation_price,
-            blocks,
-        } => (
+        CaseRecord::Bid(bid) => (5, [bid.node as u32, 0], [0, 0, 0, 0, 0], bid.blocks.len()),
+        CaseRecord::RegulationOffer(offer) => (
             6,
-            [offer as u32, 0],
-            [minimum, maximum, violation_price, 0, 0],
-            blocks.len(),
+            [offer.offer as u32, 0],
+            [offer.minimum, offer.maximum, offer.violation_price, 0, 0],
+            offer.blocks.len(),
         ),
-        CaseRecord::Requirement {
-            requirement,
-            deficit_price,
-        } => (15, [0, 0], [requirement, deficit_price, 0, 0, 0], 0),
+        CaseRecord::Requirement(requirement) => (
+            15,
+            [0, 0],
+            [requirement.requirement, requirement.deficit_price, 0, 0, 0],
+            0,
+        ),
     }
 }
 
 /// The numbers of a point or a block, or none past the end.
 fn pair(of: CaseRecord<'_>, i: usize) -> Option<(i32, i32)> {
     match of {
-        CaseRecord::Line { points, .. } => {
-            let point = points.get(i)?;
-            Some((point.flow, point.loss))
-        }
-        CaseRecord::EnergyOffer { blocks, .. }
-        | CaseRecord::Bid { blocks, .. }
-        | CaseRecord::RegulationOffer { blocks, .. } => {
-            let block = blocks.get(i)?;
-            Some((block.price, block.maximum))
+        CaseRecord::Line(line) => line.points.get(i).map(|point| (point.flow, point.loss)),
+        CaseRecord::EnergyOffer(EnergyOffer { blocks, .. })
+        | CaseRecord::Bid(Bid { blocks, .. })
+        | CaseRecord::RegulationOffer(RegulationOffer { blocks, .. }) => {
+            blocks.get(i).map(|block| (block.price, block.maximum))
         }
         _ => None,
     }
@@ -112,8 +90,8 @@ fn check_head(rt: &impl Abort, of: CaseRecord<'_>, expected: Head) {
 /// Checks the heads of all records.
 fn check_heads(rt: &impl Abort, all: &[CaseRecord<'_>], heads: &[Head]) {
     assert!(rt; all.len() == heads.len());
-    for i in 0..heads.len() {
-        check_head(rt, all[i], heads[i]);
+    for (record, head) in all.iter().zip(heads) {
+        check_head(rt, *record, *head);
     }
 }
 

@@ -116,8 +116,8 @@ fn check_row(
 
 /// Checks each row.
 fn check_rows(rt: &impl Abort, heap: Global, rows: &[Row]) -> Result<(), Fail> {
-    for i in 0..rows.len() {
-        check_row(rt, heap, i, rows[i])?;
+    for (i, row) in rows.iter().enumerate() {
+        check_row(rt, heap, i, *row)?;
     }
     Ok(())
 }

@@ -7,13 +7,12 @@ use std::test::Fail;
 
 /// The last of the starts that is not above a place.
 fn start_at(starts: &[usize], place: usize) -> usize {
-    let mut last = 0;
-    for start in starts {
-        if *start <= place {
-            last = *start;
-        }
-    }
-    last
+    starts
+        .iter()
+        .copied()
+        .filter(|start| *start <= place)
+        .last()
+        .unwrap_or(0)
 }
 
 /// Checks each beginning: a field that is cut is past the end, and between two fields a tag is missing.

@@ -1,5 +1,5 @@
 -- The one field of a certificate: a label, then the numbers of a schedule or of a set of multipliers.
-use Rattle.std.specs.Prelude.{ℕ, ◌<◌, ◌⊎◌, List, [], ◌++◌, length, ◌≢◌}
+use Rattle.std.specs.Prelude.{ℕ, ◌<◌, ◌⊎◌, List, [], ◌++◌, length, codes, ◌≢◌}
 use Rattle.fields.specs.Bytes.{four}
 use Rattle.fields.specs.Faults.{Checks}
 use Rattle.fields.specs.Fields.{Begins, Cut, InField}
@@ -9,6 +9,11 @@ use Rattle.fields.specs.declared.certificate.CertificateKind.TheVariants.{Schedu
 abbrev pub certificate_tag : CertificateKind → ℕ
 certificate_tag Schedule = 20
 certificate_tag Multipliers = 21
+
+-- the word for a kind
+abbrev pub kind_text : CertificateKind → List ℕ
+kind_text Schedule = codes "schedule"
+kind_text Multipliers = codes "multipliers"
 
 -- the bytes are one whole field of this kind, with this label and these value bytes, and nothing follows
 pub record IsCertificate (k : CertificateKind) (bs : List ℕ) (label : ℕ) (values : List ℕ) : Type 0 where

@@ -7,6 +7,7 @@ ghost use Rattle.fields.specs.declared.fault.FaultKind.{FaultKind};
 use crate::fault::{FaultKind, FieldFault};
 use crate::head::cut_field;
 use crate::number::Number;
+use std::fmt;
 
 /// What a certificate holds.
 #[derive(Clone, Copy, PartialEq, Eq, Debug)]
@@ -25,6 +26,20 @@ impl CertificateKind {
         match self {
             CertificateKind::Schedule => 20,
             CertificateKind::Multipliers => 21,
+        }
+    }
+}
+
+impl fmt::Display for CertificateKind {
+    ghost use Rattle.std.specs.Prelude.{Some};
+    ghost use Rattle.fields.specs.Certificates.{kind_text};
+
+    ghost output = { λ k. Some (kind_text k) };
+
+    fn fmt<W: fmt::Write>(&self, f: &mut fmt::Formatter<W>) -> fmt::Result {
+        match self {
+            CertificateKind::Schedule => write!(f, "schedule"),
+            CertificateKind::Multipliers => write!(f, "multipliers"),
         }
     }
 }

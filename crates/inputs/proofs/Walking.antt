@@ -1,9 +1,10 @@
 -- From field to field of an input.
-use Rattle.std.proofs.Common.{◌≡◌, ℕ, ◌-◌, ◌<◌, true, false, List, [], ◌∷◌, ◌++◌, length, take, drop, sym, refl, ap, ◌∙◌, subst, ⊎_elim, append_assoc, arith}
+use Rattle.std.proofs.Common.{◌≡◌, ℕ, ◌-◌, ◌<◌, true, false, List, [], ◌∷◌, ◌++◌, length, take, drop, sym, refl, ap, ◌∙◌, subst, ⊎_elim, append_assoc, Result, Ok, Err, Some, arith}
+use Rattle.std.specs.Result.{result_ok}
 use Rattle.std.proofs.lemmas.List.{length-append, append-nil, take_all, drop_all}
 use Rattle.fields.specs.Fields.{field, Begins, Cut}
 use Rattle.fields.proofs.Loops.{sizes}
-use Rattle.inputs.specs.Parts.{CasePart, at_end, at_certificate, at_cut, past_field, FieldsOf, one_whole, one_cut, none_left}
+use Rattle.inputs.specs.Parts.{CasePart, at_end, at_certificate, at_cut, past_field, FieldsOf, one_whole, one_cut, none_left, CutsOff}
 use Rattle.inputs.specs.Walks.{certificate_in_front, Stops, Passes}
 
 -- ---- a front and what follows it
@@ -31,14 +32,15 @@ apart bs front after e =
 
 -- ---- the field in front
 
-pub whole_front : {bs : List ℕ} {tag : ℕ} {body after : List ℕ} → Begins bs tag body after → (xs ys : List ℕ) → xs ≡ take (length bs - length after) bs → ys ≡ drop (length bs - length after) bs → (length ys < length bs) × ((fs : List (List ℕ)) → FieldsOf ys fs → FieldsOf bs (xs ∷ fs))
+pub whole_front : {bs : List ℕ} {tag : ℕ} {body after : List ℕ} → Begins bs tag body after → (xs ys : List ℕ) → xs ≡ take (length bs - length after) bs → ys ≡ drop (length bs - length after) bs → CutsOff bs xs ys
 whole_front {bs} {tag} {body} {after} b xs ys p q =
     let a = apart bs (field tag body) after b.bytes in
     let s = sizes b in
-    let rest : ys ≡ after = q ∙ a.dropped in (
-      omega (arith, ap length rest),
-      λ fs f. subst (λ (x : List ℕ). FieldsOf bs (x ∷ fs)) (sym (p ∙ a.taken)) (one_whole b (subst (λ (y : List ℕ). FieldsOf y fs) rest f)),
-    )
+    let rest : ys ≡ after = q ∙ a.dropped in
+    record {
+      less = omega (arith, ap length rest);
+      on = λ fs f. subst (λ (x : List ℕ). FieldsOf bs (x ∷ fs)) (sym (p ∙ a.taken)) (one_whole b (subst (λ (y : List ℕ). FieldsOf y fs) rest f));
+    }
 
 nothing_left : (ys : List ℕ) (fs : List (List ℕ)) → ys ≡ [] → FieldsOf ys fs → fs ≡ []
 nothing_left ys fs e none_left = refl
@@ -49,13 +51,14 @@ cut_all : (bs : List ℕ) → 0 < length bs → Cut bs → FieldsOf bs (bs ∷ [
 cut_all [] h c = absurd (omega arith)
 cut_all (tag ∷ bs) h c = one_cut c
 
-pub cut_front : (bs : List ℕ) → 0 < length bs → Cut bs → (xs ys : List ℕ) → xs ≡ take (length bs) bs → ys ≡ drop (length bs) bs → (length ys < length bs) × ((fs : List (List ℕ)) → FieldsOf ys fs → FieldsOf bs (xs ∷ fs))
+pub cut_front : (bs : List ℕ) → 0 < length bs → Cut bs → (xs ys : List ℕ) → xs ≡ take (length bs) bs → ys ≡ drop (length bs) bs → CutsOff bs xs ys
 cut_front bs h c xs ys p q =
     let all : xs ≡ bs = p ∙ take_all (length bs) bs (omega arith) in
-    let none : ys ≡ [] = q ∙ drop_all (length bs) bs (omega arith) in (
-      omega (arith, ap length none),
-      λ fs f. subst (λ (l : List (List ℕ)). FieldsOf bs (xs ∷ l)) (sym (nothing_left ys fs none f)) (subst (λ (x : List ℕ). FieldsOf bs (x ∷ [])) (sym all) (cut_all bs h c)),
-    )
+    let none : ys ≡ [] = q ∙ drop_all (length bs) bs (omega arith) in
+    record {
+      less = omega (arith, ap length none);
+      on = λ fs f. subst (λ (l : List (List ℕ)). FieldsOf bs (xs ∷ l)) (sym (nothing_left ys fs none f)) (subst (λ (x : List ℕ). FieldsOf bs (x ∷ [])) (sym all) (cut_all bs h c));
+    }
 
 -- ---- the case
 
@@ -108,3 +111,8 @@ ends_all input left w s e =
     subst (λ (x : List ℕ). CasePart input x (drop (length input) input)) (sym (take_all (length input) input (omega arith)))
     (subst (CasePart input input) (sym (drop_all (length input) input (omega arith)))
     (subst (λ (x : List ℕ). CasePart input x []) (sym w.bytes) (w.on left [] (cut_there left e cut))))
+
+-- what a result that was read as an option is
+pub ok_from : {X E : Type 0} (r : Result X E) (x : X) → result_ok r ≡ Some x → r ≡ Ok x
+ok_from (Ok y) x e = let same : y ≡ x = cc in ap Ok same
+ok_from (Err d) x e = let z : ◌≡◌ {A = ℕ} 0 1 = cc in absurd (omega arith)

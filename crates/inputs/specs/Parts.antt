@@ -1,5 +1,5 @@
 -- The parts of an input: a case, and then certificates.
-use Rattle.std.specs.Prelude.{◌≡◌, ℕ, Bool, true, false, cond, ◌||◌, List, [], ◌∷◌, ◌++◌, ◌==◌}
+use Rattle.std.specs.Prelude.{◌≡◌, ℕ, Bool, true, false, cond, ◌||◌, List, [], ◌∷◌, ◌++◌, length, ◌==◌, ◌<◌}
 use Rattle.fields.specs.Fields.{field, Begins, Cut}
 use Rattle.fields.specs.declared.certificate.CertificateKind.{CertificateKind}
 use Rattle.fields.specs.declared.certificate.CertificateKind.TheVariants.{Schedule, Multipliers}
@@ -20,6 +20,11 @@ pub data FieldsOf : List ℕ → List (List ℕ) → Type 0 where
   none_left : FieldsOf [] []
   one_cut : {tag : ℕ} {bs : List ℕ} → Cut (tag ∷ bs) → FieldsOf (tag ∷ bs) ((tag ∷ bs) ∷ [])
   one_whole : {tag : ℕ} {body after : List ℕ} {bs : List ℕ} {fs : List (List ℕ)} → Begins bs tag body after → FieldsOf after fs → FieldsOf bs (field tag body ∷ fs)
+
+-- the bytes begin with one such field, and go on with what is left
+pub record CutsOff (bs front left : List ℕ) : Type 0 where
+  pub less : length left < length bs
+  pub on : (fs : List (List ℕ)) → FieldsOf left fs → FieldsOf bs (front ∷ fs)
 
 -- the kind that the field of a certificate is laid as: a schedule by its tag, and anything else as multipliers
 abbrev pub kind_of : List ℕ → CertificateKind

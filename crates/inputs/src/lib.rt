@@ -3,4 +3,5 @@
 
 pub mod certificate;
 pub mod law;
+pub mod limit;
 pub mod part;

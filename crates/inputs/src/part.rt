@@ -29,10 +29,8 @@ fn past_field(bytes: &[u8]) -> Option<&[u8]>
     if begins_certificate(bytes) {
         return None;
     }
-    match cut_field(bytes) {
-        Ok((_, after)) => Some(after),
-        Err(_) => None,
-    }
+    let (_, after) = cut_field(bytes).ok()?;
+    Some(after)
 }
 
 /// The number of bytes of the case that an input begins with.

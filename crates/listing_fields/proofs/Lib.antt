@@ -4,3 +4,5 @@ pub mod Single
 pub mod Judged
 pub mod Parsed
 pub mod Steps
+pub mod Mapped
+pub mod Rises

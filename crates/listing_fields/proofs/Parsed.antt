@@ -1,5 +1,5 @@
 -- A body that was read number by number is the body of what was read, and the record that is made of it means the same.
-use Rattle.std.proofs.Common.{◌≡◌, ℕ, zero, suc, ◌+◌, ◌%◌, ◌<◌, true, cond, List, [], ◌∷◌, ◌++◌, length, ℤ, pos, negsuc, Some, None, Option, sym, refl, ap, subst, arith}
+use Rattle.std.proofs.Common.{◌≡◌, ℕ, zero, suc, ◌+◌, ◌%◌, ◌<◌, true, cond, List, [], ◌∷◌, ◌++◌, length, ℤ, pos, negsuc, Some, None, Option, sym, refl, ap, ◌∙◌, subst, arith}
 use Rattle.std.proofs.lemmas.Bool.{false≢true, eqb-true}
 use Rattle.std.proofs.lemmas.List.{append_assoc, get_or-append-add}
 use Rattle.fields.specs.Bytes.{Bytes, signed_four, signed_eight}
@@ -18,15 +18,15 @@ column_parsed bs x y z l l' u u' k k' s el eu ek a b c d = cc
 behind : (front rest : List ℕ) → Bytes (front ++ rest) → Bytes rest
 behind front rest is k = subst (λ n. n < 256) (get_or-append-add front rest k 0) (is (length front + k))
 
-module _ (bs x y z ts : List ℕ) (c s : ℕ) (l l' u u' : ℤ) (el : l' ≡ l) (eu : u' ≡ u) (is : Bytes bs) (p : bs ≡ c ∷ x) (q : x ≡ s ∷ y) (a : y ≡ signed_eight l ++ z) (b : z ≡ signed_eight u ++ ts) where
+module _ (bs x y z ts us : List ℕ) (c s : ℕ) (l l' u u' : ℤ) (el : l' ≡ l) (eu : u' ≡ u) (is : Bytes bs) (p : bs ≡ c ∷ x) (q : x ≡ s ∷ y) (a : y ≡ signed_eight l ++ z) (b : z ≡ signed_eight u ++ us) (same : ts ≡ us) where
   row_terms : Bytes ts
   row_terms =
-      let join = append_assoc (signed_eight l) (signed_eight u) ts in
+      let join = append_assoc (signed_eight l) (signed_eight u) us in
       let whole : bs ≡ (c ∷ s ∷ (signed_eight l ++ signed_eight u)) ++ ts = cc in
       behind (c ∷ s ∷ (signed_eight l ++ signed_eight u)) ts (subst Bytes whole is)
 
-  pub row_parsed : length ts % 6 ≡ 0 → c ∷ s ∷ (signed_eight l' ++ (signed_eight u' ++ terms_bytes (terms_in ts))) ≡ bs
-  row_parsed h = let t = terms_back ts h row_terms in cc
+  pub row_parsed : length us % 6 ≡ 0 → c ∷ s ∷ (signed_eight l' ++ (signed_eight u' ++ terms_bytes (terms_in ts))) ≡ bs
+  row_parsed h = let t = terms_back ts (ap (λ l. length l % 6) same ∙ h) row_terms in cc
 
   pub row_terms_written : TermsWritten (terms_in ts)
   row_terms_written = terms_written ts row_terms

@@ -1,6 +1,5 @@
 -- The terms in the bytes of a row.
-use Rattle.std.proofs.Common.{◌≡◌, ℕ, zero, suc, ◌+◌, ◌-◌, ◌*◌, ◌/◌, ◌%◌, ◌<◌, ◌≤◌, List, [], ◌∷◌, ◌++◌, length, get_or, take, drop, ℤ, None, sym, refl, ap, ◌∙◌, arith, w32, SFits, to_z, rules}
-use Rattle.std.specs.List.{slice_get}
+use Rattle.std.proofs.Common.{◌≡◌, ℕ, suc, ◌+◌, ◌-◌, ◌*◌, ◌%◌, ◌<◌, ◌≤◌, List, [], ◌∷◌, ◌++◌, length, get_or, take, drop, ℤ, sym, refl, ap, ◌∙◌, arith, w32, SFits, to_z, rules}
 use Rattle.std.proofs.lemmas.List.{take_rest, length-drop, append_assoc}
 use Rattle.fields.specs.Bytes.{Bytes, two}
 use Rattle.fields.proofs.Numbers.{two_read, signed_four_read, front_4}
@@ -15,16 +14,6 @@ front_6 [] h = absurd (omega arith)
 front_6 (a ∷ []) h = absurd (omega arith)
 front_6 (a ∷ b ∷ bs) h = ap (λ l. a ∷ b ∷ l) (front_4 bs (omega arith))
 
--- fewer than six bytes hold no term
-terms_none : (bs : List ℕ) → length bs < 6 → terms_in bs ≡ []
-terms_none [] h = refl
-terms_none (a ∷ []) h = refl
-terms_none (a ∷ b ∷ []) h = refl
-terms_none (a ∷ b ∷ c ∷ []) h = refl
-terms_none (a ∷ b ∷ c ∷ d ∷ []) h = refl
-terms_none (a ∷ b ∷ c ∷ d ∷ e ∷ []) h = refl
-terms_none (a ∷ b ∷ c ∷ d ∷ e ∷ f ∷ bs) h = absurd (omega arith)
-
 -- the term in front, as a slice pattern gives the rest
 pub terms_more : (bs : List ℕ) (n : ℕ) (z : ℤ) → 6 ≤ length bs → n ≡ get_or bs 0 0 * 256 + get_or bs 1 0 → z ≡ to_z w32 (get_or bs 2 0 * 16777216 + get_or bs 3 0 * 65536 + get_or bs 4 0 * 256 + get_or bs 5 0) → (terms_in bs ≡ record { column = n; coefficient = z } ∷ terms_in (take (length bs - 6) (drop 6 bs))) × (length (take (length bs - 6) (drop 6 bs)) + 6 ≡ length bs)
 terms_more bs n z h e f =
@@ -32,37 +21,6 @@ terms_more bs n z h e f =
       ap terms_in (front_6 bs h) ∙ sym (λ i. record { column = e i; coefficient = f i } ∷ terms_in (rest i)),
       omega (arith, ap length rest, length-drop 6 bs),
     )
-
--- how many terms there are
-pub terms_length : (bs : List ℕ) → length (terms_in bs) ≡ length bs / 6
-terms_length [] = refl
-terms_length (a ∷ []) = refl
-terms_length (a ∷ b ∷ []) = refl
-terms_length (a ∷ b ∷ c ∷ []) = refl
-terms_length (a ∷ b ∷ c ∷ d ∷ []) = refl
-terms_length (a ∷ b ∷ c ∷ d ∷ e ∷ []) = refl
-terms_length (a ∷ b ∷ c ∷ d ∷ e ∷ f ∷ bs) = let more = terms_length bs in omega arith
-
--- the term at a place stands in front of what is left there, as a slice gives it
-short_at : (bs : List ℕ) (n : ℕ) → length bs < 6 → None ≡ slice_get (terms_in (drop n bs)) 0
-short_at bs n h =
-    let less : length (drop n bs) < 6 = omega (arith, length-drop n bs) in
-    sym (ap (λ l. slice_get l 0) (terms_none (drop n bs) less))
-
-left_at : (bs : List ℕ) (i : ℕ) → slice_get (terms_in bs) i ≡ slice_get (terms_in (drop (6 * i) bs)) 0
-left_at bs zero = refl
-left_at [] (suc i) = short_at [] (6 * suc i) (omega arith)
-left_at (a ∷ []) (suc i) = short_at (a ∷ []) (6 * suc i) (omega arith)
-left_at (a ∷ b ∷ []) (suc i) = short_at (a ∷ b ∷ []) (6 * suc i) (omega arith)
-left_at (a ∷ b ∷ c ∷ []) (suc i) = short_at (a ∷ b ∷ c ∷ []) (6 * suc i) (omega arith)
-left_at (a ∷ b ∷ c ∷ d ∷ []) (suc i) = short_at (a ∷ b ∷ c ∷ d ∷ []) (6 * suc i) (omega arith)
-left_at (a ∷ b ∷ c ∷ d ∷ e ∷ []) (suc i) = short_at (a ∷ b ∷ c ∷ d ∷ e ∷ []) (6 * suc i) (omega arith)
-left_at (a ∷ b ∷ c ∷ d ∷ e ∷ f ∷ bs) (suc i) =
-    let six : 6 * suc i ≡ suc (suc (suc (suc (suc (suc (6 * i)))))) = omega arith in
-    left_at bs i ∙ sym (ap (λ n. slice_get (terms_in (drop n (a ∷ b ∷ c ∷ d ∷ e ∷ f ∷ bs))) 0) six)
-
-pub terms_at : (bs : List ℕ) (i : ℕ) → slice_get (terms_in (take (length bs - 6 * i) (drop (6 * i) bs))) 0 ≡ slice_get (terms_in bs) i
-terms_at bs i = ap (λ l. slice_get (terms_in l) 0) (take_rest bs (6 * i)) ∙ sym (left_at bs i)
 
 -- whole terms are written in the bytes that they were read from
 pub terms_back : (bs : List ℕ) → length bs % 6 ≡ 0 → Bytes bs → terms_bytes (terms_in bs) ≡ bs

@@ -1,7 +1,9 @@
 pub mod Terms
+pub mod TermLaws
 pub mod Entries
 pub mod Encoding
 pub mod Tests
 pub mod Listings
 pub mod Meant
+pub mod Kinds
 pub mod Reading

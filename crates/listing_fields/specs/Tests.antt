@@ -1,5 +1,6 @@
 -- The tests that a field of a listing has to pass.
 use Rattle.std.specs.Prelude.{ℕ, ◌+◌, ◌-◌, ◌*◌, ◌/◌, Bool, true, false, not, ◌&&◌, ◌||◌, List, [], ◌∷◌, ℤ, pos, negsuc, neg_ℤ, ◌==◌, int_le, nat_le, nat_lt}
+use Rattle.std.specs.List.{list_all}
 use Rattle.listing_fields.specs.declared.term.Term.{Term}
 use Rattle.listing_fields.specs.Entries.{Entry}
 use Rattle.listing_fields.specs.Entries.Entry.{column, row}
@@ -67,8 +68,7 @@ is_coefficient z = within 1000000 z
 
 -- a column number in two bytes, and a coefficient
 abbrev pub terms_in_range : List Term → Bool
-terms_in_range [] = true
-terms_in_range (t ∷ ts) = (nat_lt t.column 65536 && is_coefficient t.coefficient) && terms_in_range ts
+terms_in_range ts = list_all (λ (t : Term). nat_lt t.column 65536 && is_coefficient t.coefficient) ts
 
 abbrev pub in_range : Entry → Bool
 in_range (column c) =
@@ -82,8 +82,7 @@ column_count (column c ∷ es) = 1 + column_count es
 column_count (row r ∷ es) = column_count es
 
 abbrev pub terms_refer : ℕ → List Term → Bool
-terms_refer n [] = true
-terms_refer n (t ∷ ts) = nat_lt t.column n && terms_refer n ts
+terms_refer n ts = list_all (λ (t : Term). nat_lt t.column n) ts
 
 -- each term names one of the columns before the row
 abbrev pub refers : List Entry → Entry → Bool

@@ -5,14 +5,15 @@ ghost use Rattle.fields.specs.Fields.{Begins};
 ghost use Rattle.fields.specs.Files.{checks};
 ghost use Rattle.listing_fields.specs.Entries.{Entry};
 ghost use Rattle.listing_fields.specs.Encoding.{body, Written};
-ghost use Rattle.listing_fields.specs.Tests.{follows, sized, is_limit, are_limits, is_price, is_switch, in_range};
+ghost use Rattle.listing_fields.specs.Tests.{follows, sized, is_switch};
 ghost use Rattle.listing_fields.specs.Listings.{listing_format};
-ghost use Rattle.listing_fields.specs.Meant.{meant};
-ghost use Rattle.listing_fields.specs.Reading.{column_written, Reads};
+ghost use Rattle.listing_fields.specs.Meant.{switch_byte, meant};
+ghost use Rattle.listing_fields.specs.Reading.{column_written, Turned, Reads};
 
+use crate::range::{are_limits, is_price};
 use crate::record::ListingRecord;
 use fields::fault::FaultKind;
-use fields::number::{split_i32, split_u8};
+use fields::number::Number;
 
 /// A column as it is written.
 #[derive(Clone, Copy)]
@@ -23,32 +24,6 @@ struct ColumnField {
     switch: u8,
 }
 
-fn is_limit(z: i32) -> bool
-    ensures { result ≡ is_limit z }
-{
-    -20_000_000 <= z && z <= 20_000_000
-}
-
-fn is_price(z: i32) -> bool
-    ensures { result ≡ is_price z }
-{
-    -10_000_000 <= z && z <= 10_000_000
-}
-
-/// Whether the byte is that of no switch, or of a switch with its limits within 0 and 1.
-fn is_switch(switch: u8, lower: i32, upper: i32) -> bool
-    ensures { result ≡ is_switch switch lower upper }
-{
-    switch == 0 || (switch == 1 && 0 <= lower && upper <= 1)
-}
-
-/// Whether both are limits, in order.
-fn are_limits(lower: i32, upper: i32) -> bool
-    ensures { result ≡ are_limits lower upper }
-{
-    is_limit(lower) && is_limit(upper) && lower <= upper
-}
-
 impl ColumnField {
     /// The column that is all of a body; none exactly when the body's length is not that of a column.
     fn read(bytes: &[u8]) -> Option<ColumnField>
@@ -56,39 +31,55 @@ impl ColumnField {
             (sized 10 (length bytes.now) ≡ false)
             (λ c. (sized 10 (length bytes.now) ≡ true) × (body (column_written c) ≡ bytes.now) × Written (column_written c)) }
     {
-        let (lower, rest) = split_i32(bytes)?;
-        let (upper, rest) = split_i32(rest)?;
-        let (price, rest) = split_i32(rest)?;
-        let (switch, rest) = split_u8(rest)?;
-        if !rest.is_empty() {
-            return None;
-        }
-        Some(ColumnField {
+        let (lower, rest) = i32::split(bytes)?;
+        let (upper, rest) = i32::split(rest)?;
+        let (price, rest) = i32::split(rest)?;
+        let (switch, rest) = u8::split(rest)?;
+        rest.is_empty().then_some(ColumnField {
             lower,
             upper,
             price,
             switch,
         })
     }
+}
 
-    fn is_in_range(self) -> bool
-        ensures { result ≡ in_range (column_written self) }
-    {
-        are_limits(self.lower, self.upper)
-            && is_price(self.price)
-            && is_switch(self.switch, self.lower, self.upper)
+/// Whether the byte of a switch says that there is one.
+/// None exactly when it is neither nought nor 1, or there is one with its limits not within 0 and 1.
+fn switch_of(byte: u8, lower: i32, upper: i32) -> Option<bool>
+    ensures { MatchOption result
+        (is_switch byte lower upper ≡ false)
+        (λ s. (is_switch byte lower upper ≡ true) × (switch_byte s ≡ byte)) }
+{
+    match byte {
+        0 => Some(false),
+        1 if 0 <= lower && upper <= 1 => Some(true),
+        _ => None,
     }
+}
 
-    /// The record of a column whose numbers are in range.
-    fn to_record<'a>(self) -> ListingRecord<'a>
-        ensures { in_range (column_written self) ≡ true → meant result ≡ column_written self }
-    {
-        ListingRecord::Column {
-            lower: self.lower,
-            upper: self.upper,
-            price: self.price,
-            switch: self.switch == 1,
+impl<'a> TryFrom<ColumnField> for ListingRecord<'a> {
+    type Error = FaultKind;
+
+    ghost try_from_gives = { λ c r. Turned (column_written c) r };
+
+    fn try_from(column: ColumnField) -> Result<ListingRecord<'a>, FaultKind> {
+        let ColumnField {
+            lower,
+            upper,
+            price,
+            switch,
+        } = column;
+        if !are_limits(lower, upper) || !is_price(price) {
+            return Err(FaultKind::OutOfRange);
         }
+        let switch = switch_of(switch, lower, upper).ok_or(FaultKind::OutOfRange)?;
+        Ok(ListingRecord::Column {
+            lower,
+            upper,
+            price,
+            switch,
+        })
     }
 }
 
@@ -97,11 +88,6 @@ pub(crate) fn judge_column(bytes: &[u8]) -> Result<ListingRecord<'_>, FaultKind>
     ensures { (es : List Entry) (bs rest : List ℕ) → Begins bs 10 bytes.now rest → follows es 10 ≡ true →
         MatchResult result (λ v. Reads es bs rest (meant v)) (First (checks listing_format es bs)) }
 {
-    let Some(column) = ColumnField::read(bytes) else {
-        return Err(FaultKind::BadLength);
-    };
-    if !column.is_in_range() {
-        return Err(FaultKind::OutOfRange);
-    }
-    Ok(column.to_record())
+    let column = ColumnField::read(bytes).ok_or(FaultKind::BadLength)?;
+    ListingRecord::try_from(column)
 }

@@ -2,7 +2,9 @@
 #![tactic(auto)]
 
 mod column;
+pub mod range;
 pub mod read;
 pub mod record;
 mod row;
+pub mod sides;
 pub mod term;

@@ -1,19 +1,20 @@
 //! The field of a row.
-ghost use Rattle.std.specs.Prelude.{◌≡◌, ℕ, true, false, List, length, if◌then◌else◌, Some, None, MatchOption, MatchResult};
+ghost use Rattle.std.specs.Prelude.{◌≡◌, ℕ, true, false, List, length, MatchOption, MatchResult};
 ghost use Rattle.fields.specs.Faults.{First};
 ghost use Rattle.fields.specs.Fields.{Begins};
 ghost use Rattle.fields.specs.Files.{checks};
 ghost use Rattle.listing_fields.specs.Entries.{Entry};
 ghost use Rattle.listing_fields.specs.Encoding.{body, Written};
-ghost use Rattle.listing_fields.specs.Tests.{follows, sized, has_lower, has_upper, is_side, are_sides, column_count, in_range};
+ghost use Rattle.listing_fields.specs.Tests.{follows, sized, column_count};
 ghost use Rattle.listing_fields.specs.Listings.{listing_format};
 ghost use Rattle.listing_fields.specs.Meant.{meant};
-ghost use Rattle.listing_fields.specs.Reading.{row_written, Reads};
+ghost use Rattle.listing_fields.specs.Reading.{row_written, Turned, Reads};
 
 use crate::record::ListingRecord;
-use crate::term::{Terms, terms_in_range, terms_refer, terms_rise};
+use crate::sides::sides_of;
+use crate::term::{Terms, are_in_range, refer, rise};
 use fields::fault::FaultKind;
-use fields::number::{split_i64, split_u8};
+use fields::number::Number;
 
 /// A row as it is written.
 #[derive(Clone, Copy)]
@@ -25,47 +26,6 @@ struct RowField<'a> {
     terms: Terms<'a>,
 }
 
-fn has_lower(side: u8) -> bool
-    ensures { result ≡ has_lower side }
-{
-    side == 1 || side == 3
-}
-
-fn has_upper(side: u8) -> bool
-    ensures { result ≡ has_upper side }
-{
-    side == 2 || side == 3
-}
-
-/// Whether a side that is present is in range, or one that is absent is nought.
-fn is_side(present: bool, z: i64) -> bool
-    ensures { result ≡ is_side present z }
-{
-    if present {
-        -10_000_000_000_000_000 <= z && z <= 10_000_000_000_000_000
-    } else {
-        z == 0
-    }
-}
-
-/// Whether the side byte and its sides are in range and in order.
-fn are_sides(side: u8, lower: i64, upper: i64) -> bool
-    ensures { result ≡ are_sides side lower upper }
-{
-    1 <= side
-        && side <= 3
-        && is_side(has_lower(side), lower)
-        && is_side(has_upper(side), upper)
-        && (side != 3 || lower <= upper)
-}
-
-/// The side, if it is present.
-fn side_if(present: bool, z: i64) -> Option<i64>
-    ensures { result ≡ (if present then Some z else None) }
-{
-    if present { Some(z) } else { None }
-}
-
 impl<'a> RowField<'a> {
     /// The row that is all of a body; none exactly when the body's length is not that of a row.
     fn read(bytes: &'a [u8]) -> Option<RowField<'a>>
@@ -73,10 +33,10 @@ impl<'a> RowField<'a> {
             (sized 11 (length bytes.now) ≡ false)
             (λ w. (sized 11 (length bytes.now) ≡ true) × (body (row_written w) ≡ bytes.now) × Written (row_written w)) }
     {
-        let (code, rest) = split_u8(bytes)?;
-        let (side, rest) = split_u8(rest)?;
-        let (lower, rest) = split_i64(rest)?;
-        let (upper, rest) = split_i64(rest)?;
+        let (code, rest) = u8::split(bytes)?;
+        let (side, rest) = u8::split(rest)?;
+        let (lower, rest) = i64::split(rest)?;
+        let (upper, rest) = i64::split(rest)?;
         if rest.len() % 6 != 0 {
             return None;
         }
@@ -85,28 +45,27 @@ impl<'a> RowField<'a> {
             side,
             lower,
             upper,
-            terms: Terms { bytes: rest },
+            terms: Terms::new(rest),
         })
     }
+}
 
-    fn is_in_range(self) -> bool
-        ensures { result ≡ in_range (row_written self.entry) }
-    {
-        self.code <= 19
-            && are_sides(self.side, self.lower, self.upper)
-            && terms_in_range(self.terms.bytes)
-    }
+impl<'a> TryFrom<RowField<'a>> for ListingRecord<'a> {
+    type Error = FaultKind;
 
-    /// The record of a row whose numbers are in range.
-    fn to_record(self) -> ListingRecord<'a>
-        ensures { in_range (row_written self.entry) ≡ true → meant result ≡ row_written self.entry }
-    {
-        ListingRecord::Row {
-            code: self.code,
-            lower: side_if(has_lower(self.side), self.lower),
-            upper: side_if(has_upper(self.side), self.upper),
-            terms: self.terms,
+    ghost try_from_gives = { λ w r. Turned (row_written w) r };
+
+    fn try_from(row: RowField<'a>) -> Result<ListingRecord<'a>, FaultKind> {
+        let (lower, upper) = sides_of(row.side, row.lower, row.upper).ok_or(FaultKind::OutOfRange)?;
+        if row.code > 19 || !are_in_range(row.terms.iter()) {
+            return Err(FaultKind::OutOfRange);
         }
+        Ok(ListingRecord::Row {
+            code: row.code,
+            lower,
+            upper,
+            terms: row.terms,
+        })
     }
 }
 
@@ -115,17 +74,13 @@ pub(crate) fn judge_row(columns: usize, bytes: &[u8]) -> Result<ListingRecord<'_
     ensures { (es : List Entry) (bs rest : List ℕ) → Begins bs 11 bytes.now rest → follows es 11 ≡ true → columns ≡ column_count es →
         MatchResult result (λ v. Reads es bs rest (meant v)) (First (checks listing_format es bs)) }
 {
-    let Some(row) = RowField::read(bytes) else {
-        return Err(FaultKind::BadLength);
-    };
-    if !row.is_in_range() {
-        return Err(FaultKind::OutOfRange);
-    }
-    if !terms_refer(columns, row.terms.bytes) {
+    let row = RowField::read(bytes).ok_or(FaultKind::BadLength)?;
+    let record = ListingRecord::try_from(row)?;
+    if !refer(columns, row.terms.iter()) {
         return Err(FaultKind::BadReference);
     }
-    if !terms_rise(row.terms.bytes) {
+    if !rise(row.terms.iter()) {
         return Err(FaultKind::TermOrder);
     }
-    Ok(row.to_record())
+    Ok(record)
 }

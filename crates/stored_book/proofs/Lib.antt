@@ -1,5 +1,1 @@
-pub mod Loops
-pub mod Everys
-pub mod StoredRows
-pub mod Drafting
-pub mod Sounding
+mod Alls

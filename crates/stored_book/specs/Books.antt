@@ -6,7 +6,7 @@ use Rattle.stored_book.specs.declared.book.StoredBook.{StoredBook}
 use Rattle.stored_book.specs.Stored.{stored_lists}
 
 abbrev pub book_lists : StoredBook → Lists
-book_lists b = stored_lists (vec_items b.columns) (vec_items b.rows) (vec_items b.terms)
+book_lists b = stored_lists (vec_items b.columns) (vec_items b.rows)
 
 -- these keep the conditions
 pub book_sound : (b : StoredBook) → sound (book_lists b) ≡ true

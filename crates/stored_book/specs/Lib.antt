@@ -1,4 +1,2 @@
 pub mod Stored
-pub mod Checks
 pub mod Books
-pub mod Drafts

@@ -1,7 +1,5 @@
-//! A book that holds its lists, and a draft to build one from.
+//! A book that holds its lists.
 #![tactic(auto)]
 
 pub mod book;
-mod check;
-pub mod draft;
-mod row;
+pub mod row;

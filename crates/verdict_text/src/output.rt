@@ -1,57 +1,47 @@
 //! The text of what becomes of an input.
-ghost use Rattle.std.specs.Prelude.{◌≡◌, length, IfOk, string_bytes};
-ghost use Rattle.verdicts.specs.Outcomes.{Becomes};
-ghost use Rattle.verdict_text.specs.Outputs.{lines_text, refused_case_text, fault_text, outcome_text, Output};
+ghost use Rattle.std.specs.Prelude.{◌≡◌, IfOk, string_bytes};
+ghost use Rattle.verdict_text.specs.Outputs.{outcome_text, Output};
 
-use crate::text::{line_of, place_text, standing_line};
-use books::fault::BookFault;
-use books::part::Place;
-use docket::run::{Answer, Call};
+use crate::text::Lines;
 use std::alloc::{AllocError, Global};
+use std::fmt;
 use verdicts::outcome::{Outcome, outcome_of};
 
-/// The lines of the calls, one each, in order.
-fn lines_of(heap: Global, calls: &[Call<'_>], answers: &[Answer]) -> Result<String, AllocError>
-    ensures { IfOk result (λ s. string_bytes s ≡ lines_text calls.now answers.now) }
-{
-    let mut text = String::new(heap);
-    let mut k: usize = 0;
-    while k < calls.len() && k < answers.len() {
-        let line = line_of(heap, calls[k], answers[k].verdict)?;
-        text.push_str(line.as_str())?;
-        k += 1;
+/// What becomes of an input, in lines: one for each certificate and one for what stands, or the one line of a refusal.
+#[derive(Clone, Copy, Drop)]
+pub struct Report<'a>(pub &'a Outcome<'a>);
+
+impl fmt::Display for Report<'_> {
+    ghost use Rattle.std.specs.Prelude.{Some};
+    ghost use Rattle.verdict_text.specs.Outputs.{outcome_text};
+
+    ghost output = { λ r. Some (outcome_text r.0.now) };
+
+    fn fmt<W: fmt::Write>(&self, f: &mut fmt::Formatter<W>) -> fmt::Result {
+        match self.0 {
+            Outcome::InputRefused => writeln!(f, "input refused"),
+            Outcome::CaseRefused(fault) => {
+                let number = fault.number();
+                let place = fault.place();
+                writeln!(f, "case refused {number} {place}")
+            }
+            Outcome::Judged(judgement) => {
+                let lines = Lines {
+                    calls: judgement.calls.as_slice(),
+                    answers: judgement.run.answers.as_slice(),
+                };
+                let standing = judgement.run.standing;
+                writeln!(f, "{lines}standing {standing}")
+            }
+        }
     }
-    Ok(text)
-}
-
-/// The line of a case that is refused with a number at a place.
-fn refused_case_line(heap: Global, number: u8, place: Place) -> Result<String, AllocError>
-    ensures { IfOk result (λ s. string_bytes s ≡ refused_case_text number place) }
-{
-    let place = place_text(heap, place)?;
-    format!(in heap; "case refused {number} {place}\n")
-}
-
-/// The line of an unfit case.
-fn fault_line(heap: Global, fault: BookFault) -> Result<String, AllocError>
-    ensures { IfOk result (λ s. string_bytes s ≡ fault_text fault) }
-{
-    refused_case_line(heap, fault.number(), fault.place())
 }
 
 /// The text of what becomes of an input.
 pub fn text_of(heap: Global, outcome: &Outcome<'_>) -> Result<String, AllocError>
     ensures { IfOk result (λ s. string_bytes s ≡ outcome_text outcome.now) }
 {
-    match outcome {
-        Outcome::InputRefused => String::from_str(heap, "input refused\n"),
-        Outcome::CaseRefused(fault) => fault_line(heap, *fault),
-        Outcome::Judged(judgement) => {
-            let lines = lines_of(heap, &judgement.calls, &judgement.run.answers)?;
-            let standing = standing_line(heap, judgement.run.standing)?;
-            format!(in heap; "{lines}{standing}")
-        }
-    }
+    Report(outcome).to_string(heap)
 }
 
 /// What the verdict program writes for an input; an error is want of memory.

@@ -4,7 +4,7 @@ ghost use Rattle.docket.specs.Runs.{laid_by};
 ghost use Rattle.verdicts.specs.Laying.{CallsOf};
 
 use docket::run::Call;
-use inputs::certificate::{kind_of, next_field};
+use inputs::certificate::{Fields, kind_of};
 use std::alloc::{AllocError, Global};
 
 /// A call for each field that the bytes are cut into.
@@ -15,11 +15,11 @@ pub(crate) fn calls_of<'a>(
     ensures { IfOk result (λ v. CallsOf certificates.now (map laid_by v.items)) }
 {
     let mut calls = Vec::new(heap);
-    let mut left = certificates;
-    while let Some((field, after)) = next_field(left) {
-        let kind = kind_of(field);
-        calls.push(Call { kind, field })?;
-        left = after;
+    for field in Fields::of(certificates) {
+        calls.push(Call {
+            kind: kind_of(field),
+            field,
+        })?;
     }
     Ok(calls)
 }

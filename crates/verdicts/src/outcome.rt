@@ -7,11 +7,9 @@ use crate::calls::calls_of;
 use books::fault::{BookError, BookFault};
 use clause_book::book::ClauseBook;
 use docket::run::{Call, Run, judge_calls};
+pub use inputs::limit::INPUT_LIMIT;
 use inputs::part::case_length;
 use std::alloc::{AllocError, Global};
-
-/// The most bytes that a program takes.
-pub const INPUT_LIMIT: usize = 65_536;
 
 /// Certificates and the answers to them.
 #[derive(Drop)]

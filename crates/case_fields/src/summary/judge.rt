@@ -1,14 +1,14 @@
 //! What a summary says of a record that follows.
 ghost use Rattle.std.specs.Prelude.{◌≡◌, false, not, List, [], vec_len, nat_lt, slice_index_or};
-ghost use Rattle.case_fields.specs.Kinds.{both};
+ghost use Rattle.case_fields.specs.Kinds.{both, tag_of};
 ghost use Rattle.case_fields.specs.Entries.{Entry};
 ghost use Rattle.case_fields.specs.Meant.{meant};
-ghost use Rattle.case_fields.specs.Summaries.{SumsUp};
+ghost use Rattle.case_fields.specs.Summaries.{SumsUp, last_tag};
 ghost use Rattle.case_fields.specs.Tests.{in_turn, refers, complete};
 
 use crate::kind::RecordKind;
 use crate::record::CaseRecord;
-use crate::summary::Summary;
+use crate::summary::{Ends, Summary};
 use std::alloc::Global;
 
 impl Summary {
@@ -17,19 +17,17 @@ impl Summary {
         ensures { SumsUp result [] }
     {
         Summary {
-            last_tag: 0,
-            has_period: false,
-            has_requirement: false,
+            ends: None,
             nodes: 0,
             regulated: Vec::new(heap),
         }
     }
 
-    /// Whether a field of this kind and tag may follow.
-    pub fn lets_follow(&self, kind: RecordKind, tag: u8) -> bool
-        ensures { result ≡ in_turn self.now.last_tag kind tag }
+    /// Whether a field of this kind may follow.
+    pub fn lets_follow(&self, kind: RecordKind) -> bool
+        ensures { result ≡ in_turn (last_tag self.now.ends) kind (tag_of kind) }
     {
-        self.last_tag <= tag && !(kind.once() && self.last_tag == tag)
+        self.ends.is_none_or(|ends| ends.last < kind || (ends.last == kind && !kind.once()))
     }
 
     /// Whether a node has this number.
@@ -43,10 +41,7 @@ impl Summary {
     fn is_free(&self, offer: u16) -> bool
         ensures { result ≡ both (nat_lt offer (vec_len self.now.regulated)) (not (slice_index_or self.now.regulated.items offer false)) }
     {
-        match self.regulated.get(offer as usize) {
-            Some(regulated) => !*regulated,
-            None => false,
-        }
+        self.regulated.get(offer as usize) == Some(&false)
     }
 
     /// Whether what the record refers to stands among the records, and may be referred to.
@@ -54,14 +49,13 @@ impl Summary {
         ensures { (es : List Entry) → SumsUp self.now es → result ≡ refers es (meant «record».entry) }
     {
         match record {
-            CaseRecord::Line { start, end, .. } => {
-                self.has_node(start) && self.has_node(end) && !(start == end)
+            CaseRecord::Line(line) => {
+                self.has_node(line.start) && self.has_node(line.end) && line.start != line.end
             }
-            CaseRecord::EnergyOffer { node, .. } => self.has_node(node),
-            CaseRecord::Bid { node, .. } => self.has_node(node),
-            CaseRecord::RegulationOffer { offer, .. } => self.is_free(offer),
-            CaseRecord::Period { .. } | CaseRecord::Node { .. } | CaseRecord::Requirement { .. } =>
-                true,
+            CaseRecord::EnergyOffer(offer) => self.has_node(offer.node),
+            CaseRecord::Bid(bid) => self.has_node(bid.node),
+            CaseRecord::RegulationOffer(regulation) => self.is_free(regulation.offer),
+            CaseRecord::Period(_) | CaseRecord::Node(_) | CaseRecord::Requirement(_) => true,
         }
     }
 
@@ -69,6 +63,10 @@ impl Summary {
     pub fn is_complete(&self) -> bool
         ensures { (es : List Entry) → SumsUp self.now es → result ≡ complete es }
     {
-        self.has_period && self.nodes > 0 && self.has_requirement
+        let whole = Ends {
+            first: RecordKind::Period,
+            last: RecordKind::Requirement,
+        };
+        self.ends == Some(whole) && self.nodes > 0
     }
 }

@@ -8,11 +8,12 @@ use Rattle.case_fields.proofs.read.read_records.Given as goal
 -- the records so far are well formed, and their bytes and the rest make the input
 abbrev pub invariant-loop-rest : goal.invariant-loop-rest
 invariant-loop-rest l =
-    (l.input ≡ encoding case_format (map meant (vec_items l.records)) ++ l.rest)
-    × (l.offset ≡ length (encoding case_format (map meant (vec_items l.records))))
-    × Fit case_format [] (map meant (vec_items l.records))
-    × SumsUp l.before (map meant (vec_items l.records))
-    × (l.before.nodes ≤ l.offset)
+    record {
+      bytes : l.input ≡ encoding case_format (map meant (vec_items l.records)) ++ l.rest;
+      each : Fit case_format [] (map meant (vec_items l.records));
+      sums : SumsUp l.before (map meant (vec_items l.records));
+      nodes : l.before.nodes ≤ length (encoding case_format (map meant (vec_items l.records)));
+    }
 
 abbrev pub decreases-loop-rest : goal.decreases-loop-rest
 decreases-loop-rest l = length l.rest

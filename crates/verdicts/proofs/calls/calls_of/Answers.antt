@@ -5,9 +5,8 @@ use Rattle.verdicts.proofs.calls.calls_of.Goals as goal
 
 pub loop-field-preserved : goal.loop-field-preserved
 loop-field-preserved c =
-    let next = c.in-Some.ensures in
-    one_more c.args.certificates.now c.loop-field.left.now c.in-Some.field.now c.in-Some.after.now _ _ _ c.loop-field.invariant next.1 c.in_ok-push.ensures.items
-    (ap (λ k. laid k c.in-Some.field.now) c.kind_of-kind.ensures)
+    one_more c.args.certificates.now c.loop-field.field-iterator.left.now c.in-Some.field.now c.next.new.self.left.now _ _ _ c.loop-field.invariant c.in-Some.ensures.steps c.in_ok-push.ensures.items
+    (ap (λ k. laid k c.in-Some.field.now) c.kind_of.ensures)
 
 pub returns : goal.returns
-returns c = all_cut c.args.certificates.now c.loop-field.left.now _ c.loop-field.invariant c.in_default.ensures
+returns c = all_cut c.args.certificates.now c.loop-field.field-iterator.left.now _ c.loop-field.invariant c.in-None.ensures.steps

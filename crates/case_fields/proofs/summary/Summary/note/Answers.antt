@@ -1,53 +1,25 @@
-use Rattle.std.proofs.Common.{false, get_or, refl, ap, ◌∙◌, arith}
+use Rattle.std.proofs.Common.{false, get_or, vec_items, sym, refl, ap, ◌∙◌, arith}
 use Rattle.case_fields.specs.Meant.{meant}
-use Rattle.case_fields.proofs.Noted.{one_more, unset_push, marked, offer_there}
+use Rattle.case_fields.specs.Tests.{either, one}
+use Rattle.case_fields.proofs.Noted.{one_more, unset_push, marked, offer_there, plain}
 use Rattle.case_fields.proofs.summary.Summary.note.Goals as goal
+
+pub returns-in-Node-clause-sums : goal.returns-in-Node-clause-sums
+returns-in-Node-clause-sums c es s o r =
+    one_more _ _ es _ _ _ (ap meant c.in-Node.is) s o c.kind-kind.ensures c.with.ensures refl (omega arith) (λ k. refl)
+
+pub returns-in_ok-push-in-EnergyOffer-clause-sums : goal.returns-in_ok-push-in-EnergyOffer-clause-sums
+returns-in_ok-push-in-EnergyOffer-clause-sums c es s o r =
+    one_more _ _ es _ _ _ (ap meant c.in-EnergyOffer.is) s o c.kind-kind.ensures c.with.ensures (omega arith) c.in_ok-push-in-EnergyOffer.ensures.len (λ k. ap (λ l. get_or l k false) c.in_ok-push-in-EnergyOffer.ensures.items ∙ unset_push _ k)
+
+pub returns-in-RegulationOffer-clause-sums : goal.returns-in-RegulationOffer-clause-sums
+returns-in-RegulationOffer-clause-sums c es s o r =
+    one_more _ _ es _ _ _ (ap meant c.in-RegulationOffer.is) s o c.kind-kind.ensures c.with.ensures (omega arith) (omega (arith, c.mark.ensures.len)) (λ k. ap (λ l. get_or l k false) c.mark.ensures.items ∙ marked _ c.in-RegulationOffer.regulation.offer k (omega (arith, offer_there es _ _ (ap meant c.in-RegulationOffer.is) r, s.offers, c.args.self.now.regulated.ok.0)))
 
 pub returns-in-Period : goal.returns-in-Period
 returns-in-Period c =
+    let p = plain _ c.in-Period.is in
     record {
-      sums = λ es s r. one_more _ _ es _ _ (ap meant c.in-Period.is) s c.tag-self.ensures refl refl (omega arith) (omega arith) (λ k. refl);
-      grows = omega arith;
-    }
-
-pub returns-in-Node : goal.returns-in-Node
-returns-in-Node c =
-    record {
-      sums = λ es s r. one_more _ _ es _ _ (ap meant c.in-Node.is) s c.tag-self.ensures refl refl refl (omega arith) (λ k. refl);
-      grows = omega arith;
-    }
-
-pub returns-in_ok-push-in-EnergyOffer : goal.returns-in_ok-push-in-EnergyOffer
-returns-in_ok-push-in-EnergyOffer c =
-    record {
-      sums = λ es s r. one_more _ _ es _ _ (ap meant c.in-EnergyOffer.is) s c.tag-self.ensures refl refl (omega arith) c.in_ok-push-in-EnergyOffer.ensures.len (λ k. ap (λ l. get_or l k false) c.in_ok-push-in-EnergyOffer.ensures.items ∙ unset_push _ k);
-      grows = omega arith;
-    }
-
-pub returns-in-RegulationOffer : goal.returns-in-RegulationOffer
-returns-in-RegulationOffer c =
-    record {
-      sums = λ es s r. one_more _ _ es _ _ (ap meant c.in-RegulationOffer.is) s c.tag-self.ensures refl refl (omega arith) (omega (arith, c.mark.ensures.len)) (λ k. ap (λ l. get_or l k false) c.mark.ensures.items ∙ marked _ c.in-RegulationOffer.offer k (omega (arith, offer_there es _ _ (ap meant c.in-RegulationOffer.is) r, s.offers, c.args.self.now.regulated.ok.0)));
-      grows = omega arith;
-    }
-
-pub returns-in-Requirement : goal.returns-in-Requirement
-returns-in-Requirement c =
-    record {
-      sums = λ es s r. one_more _ _ es _ _ (ap meant c.in-Requirement.is) s c.tag-self.ensures refl refl (omega arith) (omega arith) (λ k. refl);
-      grows = omega arith;
-    }
-
-pub returns-in-Line : goal.returns-in-Line
-returns-in-Line c =
-    record {
-      sums = λ es s r. one_more _ _ es _ _ (ap meant c.in-Line.is) s c.tag-self.ensures refl refl (omega arith) (omega arith) (λ k. refl);
-      grows = omega arith;
-    }
-
-pub returns-in-Bid : goal.returns-in-Bid
-returns-in-Bid c =
-    record {
-      sums = λ es s r. one_more _ _ es _ _ (ap meant c.in-Bid.is) s c.tag-self.ensures refl refl (omega arith) (omega arith) (λ k. refl);
+      sums = λ es s o r. one_more _ _ es _ _ _ refl s o c.kind-kind.ensures c.with.ensures (omega (arith, ap one p.no_node)) (omega (arith, ap one p.no_offer)) (λ k. sym (ap (λ b. either b (get_or (vec_items c.args.self.now.regulated) k false)) (p.regulates_none k)));
       grows = omega arith;
     }

@@ -14,6 +14,6 @@ returns c =
     let fu : SFits w64 c.in_ok-upper.upper = search rules in
     let whole : length c.in_ok-upper.rest.now % 6 ≡ 0 = search rules in (
       eq-eqb _ _ (omega (arith, k.1, s.1, l.1, u.1)),
-      row_parsed _ _ _ _ _ _ _ _ _ _ _ (to_z-of_z w64 _ fl) (to_z-of_z w64 _ fu) (λ i. (c.type_inv.bytes i).fits) k.0 s.0 l.0 u.0 whole,
-      (search rules, search rules, search rules, search rules, row_terms_written _ _ _ _ _ _ _ _ _ _ _ (to_z-of_z w64 _ fl) (to_z-of_z w64 _ fu) (λ i. (c.type_inv.bytes i).fits) k.0 s.0 l.0 u.0),
+      row_parsed _ _ _ _ _ _ _ _ _ _ _ _ (to_z-of_z w64 _ fl) (to_z-of_z w64 _ fu) (λ i. (c.type_inv.bytes i).fits) k.0 s.0 l.0 u.0 c.new.ensures whole,
+      (search rules, search rules, search rules, search rules, row_terms_written _ _ _ _ _ _ _ _ _ _ _ _ (to_z-of_z w64 _ fl) (to_z-of_z w64 _ fu) (λ i. (c.type_inv.bytes i).fits) k.0 s.0 l.0 u.0 c.new.ensures),
     )
