@@ -7,7 +7,7 @@ use fields::sequence::{Element, Sequence};
 use std::marker::Model;
 
 /// The number that a schedule gives a column.
-#[derive(Clone, Copy)]
+#[derive(Clone, Copy, PartialEq, Eq, Debug)]
 pub struct Quantity(i32);
 
 impl Model for Quantity {
@@ -21,7 +21,7 @@ impl Model for Quantity {
 }
 
 /// The multiplier that a set gives a row.
-#[derive(Clone, Copy)]
+#[derive(Clone, Copy, PartialEq, Eq, Debug)]
 pub struct Multiplier(i64);
 
 impl Model for Multiplier {
@@ -32,13 +32,6 @@ impl Model for Multiplier {
     ghost view = { λ y. y.0 };
 
     ghost inverse = { λ z. record { 0 = z } };
-}
-
-/// Whether bytes are whole elements, and so many.
-pub fn are_counted<T: Element>(bytes: &[u8], count: usize) -> bool
-    ensures { result ≡ right_count T.WIDTH count bytes.now }
-{
-    bytes.len() % T::WIDTH == 0 && bytes.len() / T::WIDTH == count
 }
 
 /// The numbers of a schedule, one a column.
@@ -103,4 +96,11 @@ impl Element for Multiplier {
     }
 
     ghost laws = { multipliers_held };
+}
+
+/// Whether bytes are whole elements, and so many.
+pub fn are_counted<T: Element>(bytes: &[u8], count: usize) -> bool
+    ensures { result ≡ right_count T.WIDTH count bytes.now }
+{
+    bytes.len() % T::WIDTH == 0 && bytes.len() / T::WIDTH == count
 }

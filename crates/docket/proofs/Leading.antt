@@ -1,6 +1,7 @@
 -- The first of the best along a history, one call more.
-use Rattle.std.proofs.Common.{◌≡◌, ℕ, zero, suc, ◌<◌, ◌⊎◌, List, [], ◌∷◌, ◌++◌, length, ℤ, Some, None, Option, sym, refl, ap, subst, inl, inr, ⊎_elim, arith}
+use Rattle.std.proofs.Common.{◌≡◌, ℕ, zero, suc, ◌⊎◌, List, [], ◌∷◌, ◌++◌, length, ℤ, Some, None, Option, sym, refl, ap, subst, inl, inr, ⊎_elim, arith}
 use Rattle.std.specs.List.{slice_get}
+use Rattle.std.proofs.lemmas.Option.{slice_get_within}
 use Rattle.docket.specs.Calls.{Laid}
 use Rattle.docket.specs.Standings.{FirstBest, NoneAccepted, Leads}
 
@@ -10,11 +11,6 @@ pub nth_more : {X : Type 0} (xs ys : List X) (k : ℕ) (x : X) → slice_get xs 
 nth_more [] ys k x e = cc
 nth_more (y ∷ xs) ys zero x e = e
 nth_more (y ∷ xs) ys (suc k) x e = nth_more xs ys k x e
-
-pub nth_below : {X : Type 0} (xs : List X) (k : ℕ) (x : X) → slice_get xs k ≡ Some x → k < length xs
-nth_below [] k x e = cc
-nth_below (y ∷ xs) zero x e = omega arith
-nth_below (y ∷ xs) (suc k) x e = let h = nth_below xs k x e in omega arith
 
 pub nth_last : {X : Type 0} (xs : List X) (x : X) → slice_get (xs ++ x ∷ []) (length xs) ≡ Some x
 nth_last [] x = refl
@@ -92,7 +88,7 @@ module _ (Accepted : Laid → ℕ → ℤ → Type 0) (Worse Under : ℤ → ℤ
           there = nth_more h (c ∷ []) f.place f.call f.there;
           accepted = f.accepted;
           best = λ k d m w at b. ⊎_elim (λ e. f.best k d m w e b) (λ p. subst (λ z. Worse z v₀) (sym (last_is k d m w p.1 b)) worse) (nth_push h c k d at);
-          first = λ k d m w low at b. ⊎_elim (λ e. f.first k d m w low e b) (λ p. absurd (let q = p.0 in let r = nth_below h f.place f.call f.there in omega arith)) (nth_push h c k d at);
+          first = λ k d m w low at b. ⊎_elim (λ e. f.first k d m w low e b) (λ p. absurd (let q = p.0 in let r = slice_get_within h f.place f.call f.there in omega arith)) (nth_push h c k d at);
         }
 
   -- along a longer history what stands gets no worse, and does not go

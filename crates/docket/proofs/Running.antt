@@ -2,6 +2,7 @@
 use Rattle.std.proofs.Common.{◌≡◌, ℕ, zero, suc, ◌+◌, ◌<◌, ◌≤◌, List, [], ◌∷◌, ◌++◌, map, length, get_or, take, Some, sym, refl, ap, ◌∙◌, subst, ⊎_elim, arith}
 use Rattle.std.specs.List.{slice_get}
 use Rattle.std.proofs.lemmas.List.{length-append, map_more, take_all, take-append-le}
+use Rattle.std.proofs.lemmas.Option.{slice_get_within}
 use Rattle.books.specs.Lists.{Lists}
 use Rattle.docket.specs.declared.run.Answer.{Answer}
 use Rattle.docket.specs.declared.run.Call.{Call}
@@ -11,7 +12,7 @@ use Rattle.docket.specs.Calls.{Laid, RightVerdict}
 use Rattle.docket.specs.Docketed.{Docketed, Lays}
 use Rattle.docket.specs.Standings.{StandingOf}
 use Rattle.docket.specs.Runs.{laid_by, RightRun}
-use Rattle.docket.proofs.Leading.{nth_below, nth_push}
+use Rattle.docket.proofs.Leading.{nth_push}
 use Rattle.docket.proofs.Established.{gap_never_grows}
 
 -- ---- fronts of a list
@@ -44,8 +45,8 @@ module _ (b : Lists) (h : List Laid) (ans : List Answer) (s : Standing) (far : S
   verdicts_more right k d x at at' =
       let e = far.each in
       ⊎_elim
-      (λ p. ⊎_elim (λ q. far.verdicts k d x p q) (λ q. absurd (let l = nth_below h k d p in let m = q.0 in omega arith)) (nth_push ans a k x at'))
-      (λ p. ⊎_elim (λ q. absurd (let l = nth_below ans k x q in let m = p.0 in omega arith))
+      (λ p. ⊎_elim (λ q. far.verdicts k d x p q) (λ q. absurd (let l = slice_get_within h k d p in let m = q.0 in omega arith)) (nth_push ans a k x at'))
+      (λ p. ⊎_elim (λ q. absurd (let l = slice_get_within ans k x q in let m = p.0 in omega arith))
       (λ q. subst (λ (z : Laid). RightVerdict b z x.verdict) p.1 (subst (λ (y : Answer). RightVerdict b c y.verdict) q.1 right)) (nth_push ans a k x at'))
       (nth_push h c k d at)
 
@@ -53,7 +54,7 @@ module _ (b : Lists) (h : List Laid) (ans : List Answer) (s : Standing) (far : S
   standings_more stands k x at =
       let e = far.each in
       ⊎_elim
-      (λ p. let l = nth_below ans k x p in subst (λ (l : List Laid). StandingOf b l x.standing) (sym (take-append-le (suc k) h (c ∷ []) (omega arith))) (far.standings k x p))
+      (λ p. let l = slice_get_within ans k x p in subst (λ (l : List Laid). StandingOf b l x.standing) (sym (take-append-le (suc k) h (c ∷ []) (omega arith))) (far.standings k x p))
       (λ p. let m = p.0 in let n = length-append h (c ∷ []) in
       subst (λ (l : List Laid). StandingOf b l x.standing) (sym (take_all (suc k) (h ++ c ∷ []) (omega arith))) (subst (λ (y : Answer). StandingOf b (h ++ c ∷ []) y.standing) p.1 stands))
       (nth_push ans a k x at)

@@ -30,6 +30,7 @@ pub fn difference(a: i64, b: i64) -> Option<i64>
     a.checked_sub(b).and_then(within)
 }
 
+// Kept: a product is made only behind a test of the reach, by the exact cases of the signs: a rule of the project.
 /// Whether the product lies within the reach, by the signs.
 #[tactic(auto, using(crate::proofs::Signs::by_signs))]
 fn product_fits(a: i64, b: i64) -> bool

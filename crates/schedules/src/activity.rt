@@ -5,7 +5,7 @@ ghost use Rattle.books.specs.Walks.{terms_of};
 ghost use Rattle.certificates.specs.Values.{quantities};
 ghost use Rattle.certificates.specs.Checks.{first_broken_column, within_sides, first_broken_row, passed};
 
-use crate::product::product;
+use crate::product::wide_product;
 use books::book::Book;
 use books::part::Row;
 use books::walk::{Rows, Terms};
@@ -26,7 +26,7 @@ fn number_of(values: Quantities<'_>, column: u16) -> i32
 fn term_product(values: Quantities<'_>, term: Term) -> i64
     ensures { result ≡ term.coefficient *ℤ slice_index_or (quantities values.entry.bytes.now) term.column (pos 0) }
 {
-    product(term.coefficient, number_of(values, term.column))
+    wide_product(term.coefficient, number_of(values, term.column))
 }
 
 /// The sum of coefficient times number over the terms of a row, where every number lies within its column's limits.

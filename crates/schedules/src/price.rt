@@ -4,7 +4,7 @@ ghost use Rattle.books.specs.Schedules.{benefit as net_benefit};
 ghost use Rattle.certificates.specs.Values.{quantities};
 ghost use Rattle.certificates.specs.Checks.{unless, right_count, first_broken_column, benefit_reaches, beyond_benefit};
 
-use crate::product::product;
+use crate::product::wide_product;
 use books::book::Book;
 use books::walk::Columns;
 use certificates::fault::DocketFault;
@@ -20,7 +20,7 @@ pub(crate) fn net_benefit<B: Book>(book: &B, values: Quantities<'_>) -> i64
 {
     let mut sum = 0;
     for (column, value) in Columns::of(book).zip(values.iter()) {
-        sum += product(column.price, value.into());
+        sum += wide_product(column.price, value.into());
     }
     sum
 }

@@ -2,7 +2,7 @@
 ghost use Rattle.std.specs.Prelude.{◌≡◌, ◌*ℤ◌};
 
 /// The product of two numbers, which fits 64 bits.
-pub(crate) fn product(a: i32, b: i32) -> i64
+pub(crate) fn wide_product(a: i32, b: i32) -> i64
     ensures { result ≡ a *ℤ b }
 {
     i64::from(a) * i64::from(b)

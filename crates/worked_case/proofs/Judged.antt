@@ -1,5 +1,5 @@
 -- Certificates that are one whole field are judged by their value bytes; and runs of two and three calls.
-use Rattle.std.proofs.Common.{◌≡◌, ℕ, ◌<◌, true, List, [], ◌∷◌, ◌++◌, length, ℤ, Some, None, Ok, Err, Result, sym, refl, append-nil, arith}
+use Rattle.std.proofs.Common.{◌≡◌, ℕ, ◌<◌, true, List, [], ◌∷◌, ◌++◌, length, ℤ, Some, None, Ok, Err, Option, Result, inl, inr, sym, refl, append-nil}
 use Rattle.fields.specs.Bytes.{four}
 use Rattle.fields.specs.declared.certificate.CertificateKind.{CertificateKind}
 use Rattle.fields.specs.declared.certificate.CertificateKind.TheVariants.{Schedule, Multipliers}
@@ -9,12 +9,13 @@ use Rattle.certificates.specs.declared.fault.DocketFault.{DocketFault}
 use Rattle.docket.specs.declared.standing.Labelled.{Labelled}
 use Rattle.docket.specs.declared.verdict.Verdict.TheVariants.{Accepted}
 use Rattle.docket.specs.Calls.{laid, value_answer, Judged, Answered}
-use Rattle.docket.specs.Labels.{standing_by}
+use Rattle.docket.specs.Labels.{standing_by, greater, lower}
 use Rattle.docket.specs.Runs.{RightRun}
 use Rattle.docket.specs.Standings.{StandingOf}
 use Rattle.docket.specs.Verdicts.{refusal}
 use Rattle.docket.proofs.Established.{stands}
-use Rattle.docket.proofs.Laying.{refused_right, refused_stands, schedule_right, schedule_stands, set_right, set_stands}
+use Rattle.docket.specs.Docketed.{docketed, Lays}
+use Rattle.docket.proofs.Laying.{refused_lays, next_lays}
 use Rattle.docket.proofs.Running.{SoFar, none_so_far, one_more, whole}
 use Rattle.worked_case.specs.Certificates.{certificate}
 
@@ -30,16 +31,25 @@ module _ (b : Lists) (kept : sound b ≡ true) where
   nothing_stands : StandingOf b [] (standing_by None None)
   nothing_stands =
       stands b kept [] None None
-      (λ k c l v e a. let z : ◌≡◌ {A = ℕ} 0 1 = cc in omega arith)
-      (λ k c l v e a. let z : ◌≡◌ {A = ℕ} 0 1 = cc in omega arith)
+      (λ k c l v e a. cc)
+      (λ k c l v e a. cc)
+
+  -- a schedule or a set that is accepted, and a certificate that is refused
+  schedule_lays : (bs : List ℕ) (x : Labelled) (best bound o : Option Labelled) → o ≡ greater best x → Judged b (laid Schedule bs) x.label (Ok x.figure) → Lays (λ (l : Lists). l) (laid Schedule bs) (Accepted x.figure) (docketed b (standing_by best bound)) (docketed b (standing_by o bound))
+  schedule_lays bs x best bound o e j =
+      next_lays (λ l. l) b kept bs Schedule x j best bound o bound x.figure _ _ refl refl refl (inl (refl, e, refl))
+
+  set_lays : (bs : List ℕ) (y : Labelled) (best bound o : Option Labelled) → o ≡ lower bound y → Judged b (laid Multipliers bs) y.label (Ok y.figure) → Lays (λ (l : Lists). l) (laid Multipliers bs) (Accepted y.figure) (docketed b (standing_by best bound)) (docketed b (standing_by best o))
+  set_lays bs y best bound o e j =
+      next_lays (λ l. l) b kept bs Multipliers y j best bound best o y.figure _ _ refl refl refl (inr (refl, refl, e))
 
   -- a schedule is accepted first
   module _ (p : List ℕ) (x : Labelled) (j : Judged b (laid Schedule p) x.label (Ok x.figure)) where
     after_one : SoFar b (laid Schedule p ∷ []) (record { verdict = Accepted x.figure; standing = standing_by (Some x) None } ∷ []) (standing_by (Some x) None)
     after_one =
         one_more b [] [] (standing_by None None) (none_so_far b (standing_by None None) nothing_stands) (laid Schedule p) (record { verdict = Accepted x.figure; standing = standing_by (Some x) None })
-        (schedule_right b kept p x j x.figure refl)
-        (schedule_stands b kept p x j None None (Some x) refl [] nothing_stands)
+        (schedule_lays p x None None (Some x) refl j).verdict
+        ((schedule_lays p x None None (Some x) refl j).history [] nothing_stands)
 
     -- then a set
     pub run_of_two : (r : List ℕ) (y : Labelled) → Judged b (laid Multipliers r) y.label (Ok y.figure) → RightRun b
@@ -49,19 +59,23 @@ module _ (b : Lists) (kept : sound b ≡ true) where
     run_of_two r y i =
         whole b _ _ _
         (one_more b _ _ _ after_one (laid Multipliers r) (record { verdict = Accepted y.figure; standing = standing_by (Some x) (Some y) })
-        (set_right b kept r y i y.figure refl)
-        (set_stands b kept r y i (Some x) None (Some y) refl _ after_one.final))
+        (set_lays r y (Some x) None (Some y) refl i).verdict
+        ((set_lays r y (Some x) None (Some y) refl i).history _ after_one.final))
 
     -- then a schedule that is refused, and a set that is accepted
     module _ (q : List ℕ) (f : DocketFault) (a : Answered b (laid Schedule q) (Err f)) where
+      refused : (bs : List ℕ) (g : DocketFault) → Answered b (laid Schedule bs) (Err g) → Lays (λ (l : Lists). l) (laid Schedule bs) (refusal g) (docketed b (standing_by (Some x) None)) (docketed b (standing_by (Some x) None))
+      refused bs g e =
+          refused_lays (λ l. l) b kept bs Schedule g e (refusal g) (standing_by (Some x) None) _ refl refl
+
       after_two : SoFar b
           (laid Schedule p ∷ laid Schedule q ∷ [])
           (record { verdict = Accepted x.figure; standing = standing_by (Some x) None } ∷ record { verdict = refusal f; standing = standing_by (Some x) None } ∷ [])
           (standing_by (Some x) None)
       after_two =
           one_more b _ _ _ after_one (laid Schedule q) (record { verdict = refusal f; standing = standing_by (Some x) None })
-          (refused_right b kept q Schedule f a (refusal f) refl)
-          (refused_stands b kept q (Some x) None Schedule f a _ after_one.final)
+          (refused q f a).verdict
+          ((refused q f a).history _ after_one.final)
 
       pub run_of_three : (r : List ℕ) (y : Labelled) → Judged b (laid Multipliers r) y.label (Ok y.figure) → RightRun b
           (laid Schedule p ∷ laid Schedule q ∷ laid Multipliers r ∷ [])
@@ -70,5 +84,5 @@ module _ (b : Lists) (kept : sound b ≡ true) where
       run_of_three r y i =
           whole b _ _ _
           (one_more b _ _ _ after_two (laid Multipliers r) (record { verdict = Accepted y.figure; standing = standing_by (Some x) (Some y) })
-          (set_right b kept r y i y.figure refl)
-          (set_stands b kept r y i (Some x) None (Some y) refl _ after_two.final))
+          (set_lays r y (Some x) None (Some y) refl i).verdict
+          ((set_lays r y (Some x) None (Some y) refl i).history _ after_two.final))

@@ -12,7 +12,7 @@ use Rattle.schedules.proofs.Scans.{gains, SmallGain, gains_small, benefit_pairs,
 use Rattle.schedules.proofs.price.net_benefit.Given as given
 use Rattle.schedules.proofs.price.net_benefit.Goals as goal
 
-turn : (g : given.Over) (c : goal.After-product-sum g) → Turned 200000000000000 (length c.loop-column.yielded) (gains (zip (g.B.Book.meaning c.args.book.now).columns (quantities c.args.values.bytes.now))) (gains (drop (length (c.loop-column.yielded ++ (c.in-Some.column, c.in-Some.value) ∷ [])) (zip (g.B.Book.meaning c.args.book.now).columns (quantities c.args.values.bytes.now)))) (to_z w64 c.loop-column.sum-bits) c.product-sum.result
+turn : (g : given.Over) (c : goal.After-wide_product-sum g) → Turned 200000000000000 (length c.loop-column.yielded) (gains (zip (g.B.Book.meaning c.args.book.now).columns (quantities c.args.values.bytes.now))) (gains (drop (length (c.loop-column.yielded ++ (c.in-Some.column, c.in-Some.value) ∷ [])) (zip (g.B.Book.meaning c.args.book.now).columns (quantities c.args.values.bytes.now)))) (to_z w64 c.loop-column.sum-bits) c.wide_product-sum.result
 turn g c =
     let b = g.B.Book.meaning c.args.book.now in
     let xs = quantities c.args.values.bytes.now in
@@ -26,7 +26,7 @@ turn g c =
     let few = sound.few_columns in
     let price : SFits w32 c.in-Some.column.price = search rules in
     let near = all_front SmallGain (zip b.columns xs) _ (length loop.yielded) _ (gains_small 0 b.columns xs sound.columns c.requires) front in
-    sum_turn 200000000000000 (length loop.yielded) (omega arith) loop.invariant.2 _ _ _ near (ap gains front) ((simp to_z-of_z at c.product-sum.ensures) ∙ ap (λ v. c.in-Some.column.price *ℤ v) c.into.ensures)
+    sum_turn 200000000000000 (length loop.yielded) (omega arith) loop.invariant.2 _ _ _ near (ap gains front) ((simp to_z-of_z at c.wide_product-sum.ensures) ∙ ap (λ v. c.in-Some.column.price *ℤ v) c.into.ensures)
 
 pub overflow_add-sum : goal.overflow_add-sum
 overflow_add-sum g c = (turn g c).fits
