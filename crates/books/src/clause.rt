@@ -57,11 +57,7 @@ const CLAUSES: [Clause; 20] = [
 fn entry_at(table: &[Clause], place: usize) -> Option<Clause>
     ensures { option_map entry_of result ≡ slice_get (map entry_of table.now) place }
 {
-    if place < table.len() {
-        Some(table[place])
-    } else {
-        None
-    }
+    table.get(place).copied()
 }
 
 /// The clause of a code, or none past the last code.

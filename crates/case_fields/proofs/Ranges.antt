@@ -25,7 +25,7 @@ added t m h =
     let low : pos 0 ≤ℤ m = grind (arith, ints) in
     omega (arith, ints)
 
-blocks_more : (t : ℕ) (b : Block) (bs : List Block) → true ≡ is_block b → blocks_fit_after t (b ∷ bs) ≡ blocks_fit_after (t + nat_abs b.maximum) bs
+pub blocks_more : (t : ℕ) (b : Block) (bs : List Block) → true ≡ is_block b → blocks_fit_after t (b ∷ bs) ≡ blocks_fit_after (t + nat_abs b.maximum) bs
 blocks_more t b bs h =
     let sum = added t b.maximum (parts _ _ (sym h)).1 in
     let on = sym (+ℤ_assoc (pos t) b.maximum (sum_of_maxima bs)) ∙ ap (λ z. z +ℤ sum_of_maxima bs) sum in
@@ -42,9 +42,6 @@ over t (b ∷ bs) h = go (λ u k. over u bs k) (is_block b) refl
         (λ i. both (both (e i) (each_block bs)) (le_z (pos t +ℤ (b.maximum +ℤ sum_of_maxima bs)) (pos 1000000)))
         ∙ blocks_more t b bs e
         ∙ rest (t + nat_abs b.maximum) (omega arith)
-
-pub over_more : (t : ℕ) (b : Block) (bs : List Block) → true ≡ both (is_block_price b.price) (is_quantity b.maximum) → 1000000 < t + nat_abs b.maximum → blocks_fit_after t (b ∷ bs) ≡ false
-over_more t b bs h g = blocks_more t b bs h ∙ over (t + nat_abs b.maximum) bs g
 
 -- whether points fit after the last one of this flow, or before all
 abbrev pub points_fit_after : Option ℤ → List Point → Bool

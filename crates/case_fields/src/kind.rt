@@ -7,13 +7,13 @@ use fields::fault::FaultKind;
 /// The kind of a case record, in the order of the tags.
 #[derive(Clone, Copy, PartialEq, Eq, PartialOrd, Ord, Debug)]
 pub enum RecordKind {
-    Period,
-    Node,
-    Line,
-    EnergyOffer,
-    Bid,
-    RegulationOffer,
-    Requirement,
+    Period = 1,
+    Node = 2,
+    Line = 3,
+    EnergyOffer = 4,
+    Bid = 5,
+    RegulationOffer = 6,
+    Requirement = 15,
 }
 
 impl TryFrom<u8> for RecordKind {
@@ -41,15 +41,7 @@ impl RecordKind {
     pub fn tag(self) -> u8
         ensures { result ≡ tag_of self }
     {
-        match self {
-            RecordKind::Period => 1,
-            RecordKind::Node => 2,
-            RecordKind::Line => 3,
-            RecordKind::EnergyOffer => 4,
-            RecordKind::Bid => 5,
-            RecordKind::RegulationOffer => 6,
-            RecordKind::Requirement => 15,
-        }
+        self as u8
     }
 
     /// Whether a case has it exactly once.

@@ -8,3 +8,4 @@ mod range;
 pub mod read;
 pub mod record;
 mod summary;
+mod walk;

@@ -10,6 +10,7 @@ use crate::record::{
     Bid, CaseRecord, EnergyOffer, Line, Node, Period, RegulationOffer, Requirement,
 };
 
+// Kept: six tests that differ in their constants, since each name is a word of the rules, and a constant cannot hold a range (its value would be a call).
 /// Whether a number is a quantity, in kilowatts.
 fn is_quantity(z: i32) -> bool
     ensures { result ≡ is_quantity z }

@@ -1,5 +1,5 @@
 //! Reading a case.
-ghost use Rattle.std.specs.Prelude.{◌≡◌, ◌<◌, ◌⊎◌, List, map, length, MatchResult};
+ghost use Rattle.std.specs.Prelude.{◌≡◌, ◌<◌, ◌⊎◌, ℕ, List, map, length, MatchResult};
 ghost use Rattle.fields.specs.Faults.{First};
 ghost use Rattle.fields.specs.Files.{IsFile, FirstFault, Told, checks};
 ghost use Rattle.fields.specs.declared.fault.FieldFault.{FieldFault};
@@ -9,24 +9,26 @@ ghost use Rattle.case_fields.specs.Entries.{Entry};
 ghost use Rattle.case_fields.specs.Meant.{meant};
 ghost use Rattle.case_fields.specs.Read.{Next};
 ghost use Rattle.case_fields.specs.Summaries.{SumsUp};
+ghost use Rattle.case_fields.specs.Walks.{IsCut};
 
 use crate::kind::RecordKind;
 use crate::record::CaseRecord;
 use crate::summary::Summary;
+use crate::walk::Fields;
 use fields::fault::{FaultKind, FieldFault, ReadError};
-use fields::head::cut_field;
+use fields::head;
 use std::alloc::Global;
 
-/// The record that the input begins with, after those summed up, and what follows it.
+/// The record of a field, after those summed up, or the fault of what stands in its place.
 fn next_record<'a>(
     before: &Summary,
-    input: &'a [u8],
-) -> Result<(CaseRecord<'a>, &'a [u8]), FaultKind>
-    ensures { (es : List Entry) → SumsUp before.now es → MatchResult result
-        (λ p. Next es input.now (meant p.0) p.1.now)
-        (λ k. First (checks case_format es input.now) k) }
+    field: Result<head::Field<'a>, FaultKind>,
+) -> Result<CaseRecord<'a>, FaultKind>
+    ensures { (es : List Entry) (bs rest : List ℕ) → SumsUp before.now es → IsCut bs field.entry rest → MatchResult result
+        (λ r. Next es bs (meant r) rest)
+        (λ k. First (checks case_format es bs) k) }
 {
-    let (field, rest) = cut_field(input)?;
+    let field = field?;
     let kind = RecordKind::try_from(field.tag)?;
     if !before.lets_follow(kind) {
         return Err(FaultKind::TagOrder);
@@ -38,20 +40,20 @@ fn next_record<'a>(
     if !before.holds_references(record) {
         return Err(FaultKind::BadReference);
     }
-    Ok((record, rest))
+    Ok(record)
 }
 
-/// The next record, or its fault with the place of its field.
+/// The record of a field, or the fault with the place of the field.
 fn record_at<'a>(
     before: &Summary,
-    input: &'a [u8],
     offset: usize,
-) -> Result<(CaseRecord<'a>, &'a [u8]), FieldFault>
-    ensures { (es : List Entry) → SumsUp before.now es → MatchResult result
-        (λ p. Next es input.now (meant p.0) p.1.now)
-        (λ e. (e.offset ≡ offset) × First (checks case_format es input.now) e.kind) }
+    field: Result<head::Field<'a>, FaultKind>,
+) -> Result<CaseRecord<'a>, FieldFault>
+    ensures { (es : List Entry) (bs rest : List ℕ) → SumsUp before.now es → IsCut bs field.entry rest → MatchResult result
+        (λ r. Next es bs (meant r) rest)
+        (λ e. (e.offset ≡ offset) × First (checks case_format es bs) e.kind) }
 {
-    next_record(before, input).map_err(|kind| FieldFault { kind, offset })
+    next_record(before, field).map_err(|kind| FieldFault { kind, offset })
 }
 
 /// The records of the input, one field after the other.
@@ -60,12 +62,10 @@ fn read_records<'a>(heap: Global, input: &'a [u8]) -> Result<Vec<CaseRecord<'a>>
 {
     let mut records = Vec::new(heap);
     let mut before = Summary::new(heap);
-    let mut rest = input;
-    while !rest.is_empty() {
-        let (record, after) = record_at(&before, rest, input.len() - rest.len())?;
+    for (offset, field) in Fields::of(input) {
+        let record = record_at(&before, offset, field)?;
         before.note(record)?;
         records.push(record)?;
-        rest = after;
     }
     if !before.is_complete() {
         return Err(ReadError::Field(FieldFault {

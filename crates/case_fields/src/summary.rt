@@ -9,6 +9,7 @@ struct Ends {
 }
 
 /// What is kept of the records read so far, so that tag and references of a new record are judged in constant time.
+// Kept: the contracts of its methods name the records that it sums up, which no field of it determines, so that no model can.
 #[derive(Drop)]
 pub struct Summary {
     /// None before the first record. As tags never fall, the ends tell whether a period or a requirement was read.

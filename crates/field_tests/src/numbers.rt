@@ -1,5 +1,5 @@
 //! Numbers of one, two, four and eight bytes.
-use fields::number::{split_i32, split_i64, split_u8, split_u16, split_u32};
+use fields::number::Number;
 use std::fmt::Debug;
 use std::process::Abort;
 use std::test::Fail;
@@ -52,11 +52,11 @@ fn check_split<N: PartialEq + Debug + Drop>(
 
 #[test]
 fn splits_short_numbers(rt: HostRuntime) -> Result<(), Fail> {
-    assert!(rt; split_u8(&[]).is_none());
-    check_split(&rt, split_u8(&[255, 9]), 255)?;
+    assert!(rt; u8::split(&[]).is_none());
+    check_split(&rt, u8::split(&[255, 9]), 255)?;
     for (bytes, number) in TWO {
-        check_split(&rt, split_u16(&bytes), number)?;
-        assert!(rt; split_u16(&bytes[0..1]).is_none());
+        check_split(&rt, u16::split(&bytes), number)?;
+        assert!(rt; u16::split(&bytes[0..1]).is_none());
     }
     Ok(())
 }
@@ -64,10 +64,10 @@ fn splits_short_numbers(rt: HostRuntime) -> Result<(), Fail> {
 #[test]
 fn splits_numbers_of_four_bytes(rt: HostRuntime) -> Result<(), Fail> {
     for (bytes, unsigned, signed) in FOUR {
-        check_split(&rt, split_u32(&bytes), unsigned)?;
-        assert!(rt; split_u32(&bytes[0..3]).is_none());
-        check_split(&rt, split_i32(&bytes), signed)?;
-        assert!(rt; split_i32(&bytes[0..3]).is_none());
+        check_split(&rt, u32::split(&bytes), unsigned)?;
+        assert!(rt; u32::split(&bytes[0..3]).is_none());
+        check_split(&rt, i32::split(&bytes), signed)?;
+        assert!(rt; i32::split(&bytes[0..3]).is_none());
     }
     Ok(())
 }
@@ -75,8 +75,8 @@ fn splits_numbers_of_four_bytes(rt: HostRuntime) -> Result<(), Fail> {
 #[test]
 fn splits_numbers_of_eight_bytes(rt: HostRuntime) -> Result<(), Fail> {
     for (bytes, number) in EIGHT {
-        check_split(&rt, split_i64(&bytes), number)?;
-        assert!(rt; split_i64(&bytes[0..7]).is_none());
+        check_split(&rt, i64::split(&bytes), number)?;
+        assert!(rt; i64::split(&bytes[0..7]).is_none());
     }
     Ok(())
 }

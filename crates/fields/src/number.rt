@@ -78,38 +78,3 @@ impl Number for i64 {
         Some((i64::from_be_bytes([*a, *b, *c, *d, *e, *f, *g, *h]), rest))
     }
 }
-
-/// The byte in front, and what follows it; none exactly when there is no byte.
-pub fn split_u8(bytes: &[u8]) -> Option<(u8, &[u8])>
-    ensures { MatchOption result (length bytes.now < 1) (λ p. (bytes.now ≡ p.0 ∷ p.1.now) × (length p.1.now + 1 ≡ length bytes.now)) }
-{
-    u8::split(bytes)
-}
-
-/// The unsigned two-byte number in front, and what follows it; none exactly when there are fewer bytes.
-pub fn split_u16(bytes: &[u8]) -> Option<(u16, &[u8])>
-    ensures { MatchOption result (length bytes.now < 2) (λ p. (bytes.now ≡ two p.0 ++ p.1.now) × (length p.1.now + 2 ≡ length bytes.now)) }
-{
-    u16::split(bytes)
-}
-
-/// The unsigned four-byte number in front, and what follows it; none exactly when there are fewer bytes.
-pub fn split_u32(bytes: &[u8]) -> Option<(u32, &[u8])>
-    ensures { MatchOption result (length bytes.now < 4) (λ p. (bytes.now ≡ four p.0 ++ p.1.now) × (length p.1.now + 4 ≡ length bytes.now)) }
-{
-    u32::split(bytes)
-}
-
-/// The signed four-byte number in front, and what follows it; none exactly when there are fewer bytes.
-pub fn split_i32(bytes: &[u8]) -> Option<(i32, &[u8])>
-    ensures { MatchOption result (length bytes.now < 4) (λ p. (bytes.now ≡ signed_four p.0 ++ p.1.now) × (length p.1.now + 4 ≡ length bytes.now)) }
-{
-    i32::split(bytes)
-}
-
-/// The signed eight-byte number in front, and what follows it; none exactly when there are fewer bytes.
-pub fn split_i64(bytes: &[u8]) -> Option<(i64, &[u8])>
-    ensures { MatchOption result (length bytes.now < 8) (λ p. (bytes.now ≡ signed_eight p.0 ++ p.1.now) × (length p.1.now + 8 ≡ length bytes.now)) }
-{
-    i64::split(bytes)
-}

@@ -6,7 +6,6 @@ ghost use Rattle.inputs.specs.Labels.{label_in};
 
 use fields::certificate::CertificateKind;
 use fields::head::cut_field;
-use fields::number::split_u32;
 
 /// The field in front, all of its bytes, and what follows it; a field that passes the end is cut by it. None exactly when there is no byte.
 pub fn next_field(bytes: &[u8]) -> Option<(&[u8], &[u8])>

@@ -1,17 +1,14 @@
 //! Writes the listing of the case on standard input. A case that is refused is named on standard error alone.
 #![tactic(auto)]
 
+use inputs::limit::read_input;
 use listings::bytes::listing_bytes;
-use model_text::outcome::{INPUT_LIMIT, Outcome, outcome_of};
-use std::io::{Read, Write};
+use model_text::outcome::{Outcome, outcome_of};
+use std::io::Write;
 
 fn list(rt: &HostRuntime) -> anyhow::Result<()> {
     let heap = rt.alloc();
-    let mut input = Vec::new(heap);
-    // one byte past the limit shows that there is more than a program takes
-    rt.stdin()
-        .take(INPUT_LIMIT as u64 + 1)
-        .read_to_end(&mut input)?;
+    let input = read_input(heap, rt.stdin())?;
     let outcome = outcome_of(heap, input.as_slice())?;
     if let Outcome::Case(case) = &outcome {
         let bytes = listing_bytes(heap, &case.book)?;

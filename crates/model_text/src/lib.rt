@@ -1,7 +1,7 @@
 //! A case with its columns and rows shown to a person: what becomes of an input, and the text of each record, column and row.
 #![tactic(auto)]
 
-pub mod model;
+mod model;
 pub mod name;
 pub mod outcome;
 pub mod text;

@@ -41,33 +41,26 @@ fn first_of(kinds: Kinds, quantity: Quantity) -> Option<usize>
 fn number_of(kinds: Kinds, name: Name) -> Option<usize>
     ensures { result ≡ number_of kinds name }
 {
-    match first_of(kinds, name.quantity) {
-        Some(first) => Some(name.place.saturating_sub(first)),
-        None => None,
-    }
+    first_of(kinds, name.quantity).map(|first| name.place.saturating_sub(first))
 }
 
 /// Whether a record has several columns of a quantity, one for each point or block.
 fn is_part(quantity: Quantity) -> bool
     ensures { result ≡ is_part quantity }
 {
-    match quantity {
-        Quantity::Weight | Quantity::OfferBlock | Quantity::BidBlock | Quantity::RegulationBlock =>
-            true,
-        _ => false,
-    }
+    matches!(
+        quantity,
+        Quantity::Weight | Quantity::OfferBlock | Quantity::BidBlock | Quantity::RegulationBlock
+    )
 }
 
 /// Whether a column is of the record and the quantity of a name.
 fn is_like(book: &ClauseBook, j: usize, name: Name) -> bool
     ensures { result ≡ is_like (slice_get (named_in book.now) j) name }
 {
-    match book.named(j) {
-        Some(other) => {
-            other.name.place == name.place && other.name.quantity == name.quantity
-        }
-        None => false,
-    }
+    book.named(j).is_some_and(|other| {
+        other.name.place == name.place && other.name.quantity == name.quantity
+    })
 }
 
 /// How many columns straight before one are of the same record and quantity.
@@ -75,10 +68,11 @@ fn parts_before(book: &ClauseBook, name: Name, j: usize) -> usize
     ensures { result ≡ parts_before (named_in book.now) name j }
 {
     let mut n = 0;
-    let mut i = j;
-    while i > 0 && is_like(book, i - 1, name) {
+    for i in (0..j).rev() {
+        if !is_like(book, i, name) {
+            return n;
+        }
         n += 1;
-        i -= 1;
     }
     n
 }
@@ -95,15 +89,10 @@ pub struct ColumnName {
 pub(crate) fn column_name(kinds: Kinds, book: &ClauseBook, j: usize, name: Name) -> ColumnName
     ensures { result ≡ column_name kinds (named_in book.now) j name }
 {
-    let part = if is_part(name.quantity) {
-        Some(parts_before(book, name, j))
-    } else {
-        None
-    };
     ColumnName {
         quantity: name.quantity,
         number: number_of(kinds, name),
-        part,
+        part: is_part(name.quantity).then(|| parts_before(book, name, j)),
     }
 }
 

@@ -1,5 +1,5 @@
 //! The text of a case: its records, then a line for each column and row.
-use crate::model::show_model;
+use crate::model::Model;
 use crate::outcome::Outcome;
 use case_columns::count::kinds_of;
 use case_text::text::show_case;
@@ -16,7 +16,11 @@ impl fmt::Display for Outcome<'_> {
             }
             Outcome::Case(case) => {
                 show_case(case.records.as_slice(), f)?;
-                show_model(kinds_of(&case.records), &case.book, f)
+                let model = Model {
+                    kinds: kinds_of(&case.records),
+                    book: &case.book,
+                };
+                write!(f, "{model}")
             }
         }
     }

@@ -1,9 +1,10 @@
+use Rattle.std.proofs.Common.{ap, ◌∙◌}
+use Rattle.std.specs.Option.{option_map}
 use Rattle.books.specs.ClauseTable.{entry_of}
-use Rattle.books.proofs.Entries.{entry_at, entry_past}
+use Rattle.books.proofs.Entries.{entry_got}
 use Rattle.books.proofs.clause.entry_at.Goals as goal
 
-pub returns-then-place-table : goal.returns-then-place-table
-returns-then-place-table c = entry_at entry_of c.args.table.now c.args.place _ c.if-place-table.true
-
-pub returns-else-place-table : goal.returns-else-place-table
-returns-else-place-table c = entry_past entry_of c.args.table.now c.args.place c.if-place-table.false
+pub returns : goal.returns
+returns c =
+    ap (option_map entry_of) c.copied.ensures
+    ∙ entry_got entry_of c.args.table.now c.args.place c.get.result c.get.ensures.lookup.0 c.get.ensures.lookup.1

@@ -19,10 +19,10 @@ none cs n i h e = before cs n i h ∙ ap (λ (b : Bool). cond b (parts_before cs
 
 pub loop-i-preserved : goal.loop-i-preserved
 loop-i-preserved c =
-    let e = more (named_in c.args.book.now) c.args.name c.loop-i.i c.loop-i-test.true (sym c.if-is_like.ensures) in
+    let e = more (named_in c.args.book.now) c.args.name c.loop-i.i c.loop-i-test.true (sym c.if-not-is_like.ensures) in
     (omega (arith, c.loop-i.invariant.0), omega (arith, c.loop-i.invariant.1))
 
-pub returns-else-is_like : goal.returns-else-is_like
-returns-else-is_like c =
-    let e = none (named_in c.args.book.now) c.args.name c.loop-i.i c.loop-i-test.true (sym c.if-is_like.ensures) in
+pub returns-then-not-is_like : goal.returns-then-not-is_like
+returns-then-not-is_like c =
+    let e = none (named_in c.args.book.now) c.args.name c.loop-i.i c.loop-i-test.true (sym c.if-not-is_like.ensures) in
     omega (arith, c.loop-i.invariant.0)

@@ -6,6 +6,3 @@ use Rattle.model_text.proofs.name.parts_before.Given as goal
 -- those counted so far and those before the next column are all
 abbrev pub invariant-loop-i : goal.invariant-loop-i
 invariant-loop-i l = (l.n + parts_before (named_in l.initial.book) l.name l.i ≡ parts_before (named_in l.initial.book) l.name l.j) × (l.n + l.i ≡ l.j)
-
-abbrev pub decreases-loop-i : goal.decreases-loop-i
-decreases-loop-i l = l.i
