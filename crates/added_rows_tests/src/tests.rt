@@ -31,7 +31,7 @@ impl Book for TwoColumns {
     }
 
     fn column(&self, j: usize) -> Option<Column> {
-        if j < 2 { Some(COLUMN) } else { None }
+        (j < 2).then_some(COLUMN)
     }
 
     fn row_count(&self) -> usize {

@@ -5,3 +5,4 @@ pub mod Files
 pub mod Lawful
 pub mod Certificates
 pub mod Sequences
+pub mod Walks

@@ -6,3 +6,4 @@ pub mod fault;
 pub mod head;
 pub mod number;
 pub mod sequence;
+pub mod walk;

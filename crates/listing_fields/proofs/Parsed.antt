@@ -1,18 +1,14 @@
 -- A body that was read number by number is the body of what was read, and the record that is made of it means the same.
-use Rattle.std.proofs.Common.{◌≡◌, ℕ, zero, suc, ◌+◌, ◌%◌, ◌<◌, true, cond, List, [], ◌∷◌, ◌++◌, length, ℤ, pos, negsuc, Some, None, Option, sym, refl, ap, ◌∙◌, subst, arith}
+use Rattle.std.proofs.Common.{◌≡◌, ℕ, zero, suc, ◌+◌, ◌%◌, ◌<◌, true, cond, List, ◌∷◌, ◌++◌, length, ℤ, pos, negsuc, Some, None, Option, sym, refl, ap, ◌∙◌, subst, arith}
 use Rattle.std.proofs.lemmas.Bool.{false≢true, eqb-true}
 use Rattle.std.proofs.lemmas.List.{append_assoc, get_or-append-add}
-use Rattle.fields.specs.Bytes.{Bytes, signed_four, signed_eight}
+use Rattle.fields.specs.Bytes.{Bytes, signed_eight}
 use Rattle.listing_fields.specs.Terms.{terms_in, terms_bytes}
 use Rattle.listing_fields.specs.Encoding.{TermsWritten}
 use Rattle.listing_fields.specs.Tests.{is_nought, has_lower, has_upper}
 use Rattle.listing_fields.specs.Meant.{side_byte, side_number}
 use Rattle.listing_fields.proofs.Ranges.{Sides}
 use Rattle.listing_fields.proofs.Sixes.{terms_back, terms_written}
-
--- the numbers l', u' and k' are l, u and k, as the check writes them
-pub column_parsed : (bs x y z : List ℕ) (l l' u u' k k' : ℤ) (s : ℕ) → l' ≡ l → u' ≡ u → k' ≡ k → bs ≡ signed_four l ++ x → x ≡ signed_four u ++ y → y ≡ signed_four k ++ z → z ≡ s ∷ [] → signed_four l' ++ (signed_four u' ++ (signed_four k' ++ (s ∷ []))) ≡ bs
-column_parsed bs x y z l l' u u' k k' s el eu ek a b c d = cc
 
 -- what follows a front of bytes are bytes
 behind : (front rest : List ℕ) → Bytes (front ++ rest) → Bytes rest

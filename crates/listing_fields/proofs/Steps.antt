@@ -56,11 +56,6 @@ seen_more {es = es} after e es' b' s r pushed told =
       tells = told;
     })
 
--- what is left gets shorter
-pub less_left : (es : List Entry) (rest after : List ℕ) (e : Entry) → Reads es rest after e → length after < length rest
-less_left es rest after e r =
-    omega (arith, ap length r.begins.bytes, length-append (field (tag e) (body e)) after, length-field (tag e) (body e))
-
 -- there are no more columns than bytes
 count_most : (es : List Entry) → column_count es ≤ length (encoding listing_format es)
 unfolding listing_format

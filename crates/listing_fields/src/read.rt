@@ -1,8 +1,8 @@
 //! Reading a listing.
 ghost use Rattle.std.specs.Prelude.{◌≡◌, ℕ, ◌+◌, ◌^◌, ◌<◌, ◌⊎◌, List, [], ◌∷◌, ◌++◌, map, nat_le, MatchResult};
 ghost use Rattle.fields.specs.Faults.{First};
-ghost use Rattle.fields.specs.Fields.{Begins};
 ghost use Rattle.fields.specs.Files.{checks, IsFile, FirstFault, Told};
+ghost use Rattle.fields.specs.Walks.{IsCut};
 ghost use Rattle.fields.specs.declared.fault.FieldFault.{FieldFault};
 ghost use Rattle.fields.specs.declared.fault.ReadError.TheVariants.{Memory, Field};
 ghost use Rattle.listing_fields.specs.Entries.{Entry};
@@ -15,6 +15,7 @@ use crate::record::{EntryKind, ListingRecord};
 use crate::row::judge_row;
 use fields::fault::{FaultKind, FieldFault, ReadError};
 use fields::head;
+use fields::walk::Fields;
 use std::alloc::Global;
 
 /// The fields before the next: how many columns there are, and what the last is.
@@ -52,11 +53,15 @@ impl Before {
         self.last.is_none_or(|last| last <= kind)
     }
 
-    /// The record of the next field, or the lowest fault that applies.
-    fn judge<'a>(self, field: head::Field<'a>) -> Result<ListingRecord<'a>, FaultKind>
-        ensures { (es : List Entry) (bs rest : List ℕ) → Begins bs field.entry.tag field.entry.body.now rest → Tells self es →
+    /// The record of the next field, or the lowest fault that applies to what stands in its place.
+    fn judge<'a>(
+        self,
+        field: Result<head::Field<'a>, FaultKind>,
+    ) -> Result<ListingRecord<'a>, FaultKind>
+        ensures { (es : List Entry) (bs rest : List ℕ) → Tells self es → IsCut bs field.entry rest →
             MatchResult result (λ v. Reads es bs rest (meant v)) (First (checks listing_format es bs)) }
     {
+        let field = field?;
         let kind = EntryKind::try_from(field.tag)?;
         if !self.allows(kind) {
             return Err(FaultKind::TagOrder);
@@ -65,15 +70,6 @@ impl Before {
             EntryKind::Column => judge_column(field.body),
             EntryKind::Row => judge_row(self.columns, field.body),
         }
-    }
-
-    /// The next record and what follows it, or the lowest fault that applies.
-    fn read<'a>(self, input: &'a [u8]) -> Result<(ListingRecord<'a>, &'a [u8]), FaultKind>
-        ensures { (es : List Entry) → Tells self es →
-            MatchResult result (λ p. Reads es input.now p.1.now (meant p.0)) (First (checks listing_format es input.now)) }
-    {
-        let (field, rest) = head::cut_field(input)?;
-        Ok((self.judge(field)?, rest))
     }
 }
 
@@ -92,15 +88,12 @@ pub fn read_listing<'a>(heap: Global, input: &'a [u8]) -> Result<Vec<ListingReco
         columns: 0,
         last: None,
     };
-    let mut rest = input;
-    while !rest.is_empty() {
-        let offset = input.len() - rest.len();
-        let (next, after) = before
-            .read(rest)
+    for (offset, field) in Fields::of(input) {
+        let next = before
+            .judge(field)
             .map_err(|kind| FieldFault { kind, offset })?;
         records.push(next)?;
         before = before.with(next);
-        rest = after;
     }
     Ok(records)
 }

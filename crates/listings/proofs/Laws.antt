@@ -1,5 +1,5 @@
 -- The laws of listings: each sound book has a listing that is a file, its fields give it back, and the fields of a file are those of the lists that they give, which are sound where they are few.
-use Rattle.std.proofs.Common.{◌≡◌, ℕ, suc, ◌+◌, ◌*◌, ◌≤◌, true, ◌&&◌, List, [], ◌∷◌, ◌++◌, map, length, sym, refl, ap, ◌∙◌, add-zero, add_assoc, zero-add, arith}
+use Rattle.std.proofs.Common.{◌≡◌, ℕ, suc, ◌+◌, ◌*◌, ◌≤◌, true, List, [], ◌∷◌, ◌++◌, map, length, sym, refl, ap, ◌∙◌, add-zero, add_assoc, zero-add, arith}
 use Rattle.std.proofs.lemmas.Bool.{and_parts, and_from, leb-true, le-leb, eq-eqb}
 use Rattle.fields.specs.Bytes.{four, eight, signed_four, signed_eight}
 use Rattle.fields.specs.Files.{Fits, Fit, IsFile}
@@ -12,7 +12,7 @@ use Rattle.books.specs.declared.part.Column.{Column}
 use Rattle.books.specs.Lists.{FullRow, Lists}
 use Rattle.books.specs.Conditions.{every, few, sound, sound_column, sound_row}
 use Rattle.listings.specs.Listed.{column_entry, row_entry, entries, listing_of, column_of, row_of, columns_given, rows_given, given}
-use Rattle.listings.proofs.Fews.{short, kept}
+use Rattle.books.proofs.Sounds.{short, sound_parts}
 use Rattle.listings.proofs.Parts.{length-terms}
 use Rattle.listings.proofs.Tested.{column_ranged, row_passes, row_sound, column_back, row_back, column_forth, row_forth}
 
@@ -29,21 +29,6 @@ last_push : (es : List Entry) (e : Entry) → tag_of_last (es ++ e ∷ []) ≡ t
 last_push [] e = refl
 last_push (d ∷ []) e = refl
 last_push (d ∷ f ∷ es) e = last_push (f ∷ es) e
-
--- the parts of the conditions
-pub record Sound (b : Lists) : Type 0 where
-  pub columns : every sound_column b.columns ≡ true
-  pub rows : every (sound_row (length b.columns)) b.rows ≡ true
-
-sound_parts : (b : Lists) → sound b ≡ true → Sound b
-unfolding sound
-sound_parts b h =
-    let p = and_parts (few b && every sound_column b.columns) (every (sound_row (length b.columns)) b.rows) h in
-    record { columns = (and_parts (few b) (every sound_column b.columns) p.0).1; rows = p.1 }
-
-sound_from : (b : Lists) → few b ≡ true → Sound b → sound b ≡ true
-unfolding sound
-sound_from b f s = and_from _ _ (and_from _ _ f s.columns) s.rows
 
 -- a sound column and a sound row fit after others
 column_fits : (before : List Entry) (c : Column) → tag_of_last before ≤ 10 → sound_column c ≡ true → Fits listing_format before (column_entry c)
@@ -103,7 +88,7 @@ listing_file b h =
     let s = sound_parts b h in
     record {
       bytes = refl;
-      each = columns_fit [] b.columns b.rows (length b.columns) (omega arith) (omega arith) (kept b h).terms s.columns s.rows;
+      each = columns_fit [] b.columns b.rows (length b.columns) (omega arith) (omega arith) s.few_terms s.columns s.rows;
       complete = refl;
     }
 
@@ -194,7 +179,12 @@ gives before (row r ∷ es) p =
 pub file_given : (bs : List ℕ) (es : List Entry) → IsFile listing_format bs es → entries (given es) ≡ es
 file_given bs es i = (gives [] es i.each).same
 
+-- lists of few columns, rows and terms that keep the other conditions
+sound_few : (b : Lists) → few b ≡ true → every sound_column b.columns ≡ true → every (sound_row (length b.columns)) b.rows ≡ true → sound b ≡ true
+unfolding sound
+sound_few b f c r = and_from _ _ (and_from _ _ f c) r
+
 pub file_sound : (bs : List ℕ) (es : List Entry) → IsFile listing_format bs es → few (given es) ≡ true → sound (given es) ≡ true
 file_sound bs es i f =
     let g = gives [] es i.each in
-    sound_from (given es) f (record { columns = g.columns; rows = ap (λ n. every (sound_row n) (rows_given es)) (sym (zero-add (length (columns_given es)))) ∙ g.rows })
+    sound_few (given es) f g.columns (ap (λ n. every (sound_row n) (rows_given es)) (sym (zero-add (length (columns_given es)))) ∙ g.rows)

@@ -1,42 +1,36 @@
--- A loop that writes the bytes of one element after the other, as long as there is one.
-use Rattle.std.proofs.Common.{◌≡◌, ℕ, zero, suc, ◌+◌, ◌≤◌, List, [], ◌∷◌, ◌++◌, length, take, Some, None, sym, ap, ◌∙◌, arith}
-use Rattle.std.specs.List.{slice_get, flat_map}
-use Rattle.std.proofs.lemmas.List.{length-append, flat_map_more, take_all}
-use Rattle.books.proofs.Nths.{some_within, none_past, take_next}
-use Rattle.listings.specs.Writing.{Wrote}
-use Rattle.listings.proofs.Chains.{wrote_none, wrote_same, wrote_more}
+-- A loop that writes the bytes of one element after the other.
+use Rattle.std.proofs.Common.{◌≡◌, ℕ, ◌+◌, ◌≤◌, List, [], ◌∷◌, ◌++◌, length, sym, ap, ◌∙◌, arith}
+use Rattle.std.specs.List.{flat_map}
+use Rattle.std.proofs.lemmas.List.{append_assoc, append-nil, length-append, flat_map_more}
+use Rattle.std.proofs.lemmas.Grind.{flat_map-append}
+use Rattle.listings.specs.declared.put.Writer.{Writer}
+use Rattle.listings.specs.Puts.{Puts}
+use Rattle.listings.proofs.Chains.{puts_none, puts_same, puts_more, puts_long}
 
 module _ {X : Type 0} (f : X → List ℕ) where
-  -- the bytes up to an element and with it, and the bytes of a front
-  pub joined_next : (xs : List X) (k : ℕ) (x : X) → slice_get xs k ≡ Some x → flat_map f (take (k + 1) xs) ≡ flat_map f (take k xs) ++ f x
-  joined_next xs k x e = ap (flat_map f) (take_next xs k x e) ∙ sym (flat_map_more f [] (take k xs) x)
+  -- the bytes of the elements before those left are written
+  pub record Run (xs : List X) (start now : Writer) (left : List X) : Type 0 where
+    pub done : List X
+    pub split : xs ≡ done ++ left
+    pub puts : Puts start (flat_map f done) now
 
-  pub joined_front : (xs : List X) (k : ℕ) → length (flat_map f (take k xs)) ≤ length (flat_map f xs)
-  joined_front xs zero = omega arith
-  joined_front [] (suc k) = omega arith
-  joined_front (y ∷ ys) (suc k) =
-      omega (arith, joined_front ys k, length-append (f y) (flat_map f (take k ys)), length-append (f y) (flat_map f ys))
+  module _ (xs : List X) (w : Writer) (fits : w.at + length (flat_map f xs) ≤ length w.out.now) where
+    pub run_none : (left : List X) → left ≡ xs → Run xs w w left
+    run_none left e = record { done = []; split = sym e; puts = puts_none w (omega (arith, fits)) }
 
-  -- the bytes of the first k elements are written
-  pub record Run (xs : List X) (old : List ℕ) (start : ℕ) (new : List ℕ) (at k : ℕ) : Type 0 where
-    pub wrote : Wrote old start (flat_map f (take k xs)) new at
-    pub most : k ≤ length xs
+    module _ {now : Writer} {left : List X} (run : Run xs w now left) where
+      pub run_room : (x : X) (more : List X) → left ≡ x ∷ more → now.at + length (f x) ≤ length now.out.now
+      run_room x more e =
+          omega (arith, fits, run.puts.wrote.next_is, puts_long run.puts, ap (λ l. length (flat_map f l)) run.split, ap length (flat_map-append f run.done left), length-append (flat_map f run.done) (flat_map f left), ap (λ l. length (flat_map f l)) e, length-append (f x) (flat_map f more))
 
-  module _ (xs : List X) (old : List ℕ) (start : ℕ) (fits : start + length (flat_map f xs) ≤ length old) where
-    pub run_none : Run xs old start old start 0
-    run_none = record { wrote = wrote_none old start (omega arith); most = omega arith }
-
-    module _ {new : List ℕ} {at k : ℕ} (run : Run xs old start new at k) where
-      pub run_room : (x : X) → slice_get xs k ≡ Some x → at + length (f x) ≤ length old
-      run_room x e =
-          omega (arith, fits, run.wrote.next_is, ap length (joined_next xs k x e), length-append (flat_map f (take k xs)) (f x), joined_front xs (k + 1))
-
-      pub run_more : (x : X) (next : List ℕ) (after : ℕ) → slice_get xs k ≡ Some x → Wrote new at (f x) next after → Run xs old start next after (k + 1)
-      run_more x next after e w =
+      pub run_more : (x : X) (more : List X) {next : Writer} → left ≡ x ∷ more → Puts now (f x) next → Run xs w next more
+      run_more x more e p =
           record {
-            wrote = wrote_same _ _ (sym (joined_next xs k x e)) (wrote_more (flat_map f (take k xs)) (f x) run.wrote w);
-            most = omega (arith, some_within xs k x e);
+            done = run.done ++ x ∷ [];
+            split = run.split ∙ ap (λ l. run.done ++ l) e ∙ sym (append_assoc run.done (x ∷ []) more);
+            puts = puts_same _ _ (flat_map_more f [] run.done x) (puts_more (flat_map f run.done) (f x) run.puts p);
           }
 
-      pub run_all : slice_get xs k ≡ None → Wrote old start (flat_map f xs) new at
-      run_all e = wrote_same _ _ (ap (flat_map f) (take_all k xs (none_past xs k e))) run.wrote
+      pub run_all : left ≡ [] → Puts w (flat_map f xs) now
+      run_all e =
+          puts_same _ _ (ap (flat_map f) (sym (run.split ∙ ap (λ l. run.done ++ l) e ∙ append-nil run.done))) run.puts

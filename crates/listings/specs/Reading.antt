@@ -1,8 +1,6 @@
 -- What reading a listing gives.
-use Rattle.std.specs.Prelude.{◌≡◌, ℕ, false, List, [], ◌++◌, length}
+use Rattle.std.specs.Prelude.{◌≡◌, ℕ, false, List, length}
 use Rattle.fields.specs.Files.{IsFile, FirstFault}
-use Rattle.listing_fields.specs.declared.term.Term.{Term}
-use Rattle.listing_fields.specs.Entries.{Entry}
 use Rattle.listing_fields.specs.Listings.{listing_format}
 use Rattle.books.specs.declared.fault.BookFault.{BookFault}
 use Rattle.books.specs.declared.fault.BookFault.TheVariants.{Field, TooLarge, NoRoom, UnfitRow, ShortBuffer}
@@ -10,16 +8,7 @@ use Rattle.books.specs.declared.fault.BookError.{BookError}
 use Rattle.books.specs.declared.fault.BookError.TheVariants.{Memory, Fault}
 use Rattle.books.specs.Lists.{Lists}
 use Rattle.books.specs.Conditions.{few}
-use Rattle.stored_book.specs.Drafts.{Drafted}
-use Rattle.listings.specs.Listed.{entries, given}
-
--- terms added to the row that is being built
-abbrev pub with_terms : List Term → Drafted → Drafted
-with_terms ts d = record { lists = d.lists; begun = d.begun ++ ts }
-
--- a draft of the lists that fields give
-abbrev pub gathered : List Entry → Drafted
-gathered es = record { lists = given es; begun = [] }
+use Rattle.listings.specs.Listed.{entries}
 
 -- the bytes are the listing of lists with too many columns, rows or terms
 pub record IsTooLarge (bs : List ℕ) : Type 0 where

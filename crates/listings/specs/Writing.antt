@@ -1,16 +1,14 @@
 -- What writing bytes into a buffer does to it.
-use Rattle.std.specs.Prelude.{◌≡◌, ℕ, ◌+◌, ◌*◌, ◌<◌, ◌≤◌, List, [], ◌∷◌, ◌++◌, length, take, drop, Some, None, Ok, Err, Option, Result}
-use Rattle.std.specs.List.{slice_get}
+use Rattle.std.specs.Prelude.{◌≡◌, ℕ, ◌+◌, ◌*◌, ◌<◌, ◌≤◌, List, [], ◌∷◌, ◌++◌, length, take, drop, Ok, Err, Result}
 use Rattle.fields.specs.Bytes.{two, signed_eight}
 use Rattle.fields.specs.Files.{encode}
-use Rattle.listing_fields.specs.declared.term.Term.{Term}
 use Rattle.listing_fields.specs.Listings.{listing_format}
 use Rattle.listing_fields.specs.Meant.{side_byte, side_number}
 use Rattle.books.specs.declared.part.Column.{Column}
 use Rattle.books.specs.declared.part.Row.{Row}
 use Rattle.books.specs.declared.fault.BookFault.{BookFault}
 use Rattle.books.specs.declared.fault.BookFault.TheVariants.{ShortBuffer}
-use Rattle.books.specs.Lists.{FullRow, Lists}
+use Rattle.books.specs.Lists.{FullRow}
 use Rattle.listings.specs.Listed.{column_entry, row_entry}
 
 -- the bytes stand from a place up to the next in the new buffer, and all else is as in the old
@@ -30,14 +28,6 @@ row_bytes r = encode listing_format (row_entry r)
 abbrev pub head_bytes : Row → List ℕ
 head_bytes r =
     (11 ∷ []) ++ (two (18 + 6 * r.terms) ++ ((r.code ∷ side_byte r.lower r.upper ∷ []) ++ (signed_eight (side_number r.lower) ++ signed_eight (side_number r.upper))))
-
--- the terms of a row, none past the end
-abbrev pub terms_in_row : Option FullRow → List Term
-terms_in_row None = []
-terms_in_row (Some r) = r.terms
-
-abbrev pub terms_of_row : Lists → ℕ → List Term
-terms_of_row b i = terms_in_row (slice_get b.rows i)
 
 -- the answer to writing a listing into a buffer that was old and is new
 abbrev pub ListedInto : (listing old new : List ℕ) → Result ℕ BookFault → Type 0

@@ -1,112 +1,101 @@
-//! Writing the parts of a listing at a place of a buffer.
-ghost use Rattle.std.specs.Prelude.{◌≡◌, ◌+◌, ◌≤◌, length};
-ghost use Rattle.fields.specs.Bytes.{two, signed_four, signed_eight};
-ghost use Rattle.listing_fields.specs.Terms.{term_bytes};
-ghost use Rattle.listing_fields.specs.Meant.{switch_byte, side_byte, side_number};
-ghost use Rattle.listings.specs.Writing.{Wrote, column_bytes, head_bytes};
+//! Writing the parts of a listing into a buffer, one behind the other.
+ghost use Rattle.std.specs.Prelude.{◌+◌, ◌≤◌, length};
+ghost use Rattle.std.specs.List.{flat_map};
+ghost use Rattle.listing_fields.specs.Terms.{term_bytes, terms_bytes};
+ghost use Rattle.books.specs.Walks.{terms_of};
+ghost use Rattle.listings.specs.Writing.{column_bytes, row_bytes, head_bytes};
 
+use books::book::Book;
 use books::part::{Column, Row};
+use books::walk::{Columns, Rows, Terms};
+use listing_fields::record::EntryKind;
+use listing_fields::sides::{side_byte, side_number};
 use listing_fields::term::Term;
-
-const COLUMN_TAG: u8 = 10;
 
 const COLUMN_SIZE: u8 = 13;
 
-const ROW_TAG: u8 = 11;
+/// A buffer that is written up to a place.
+#[derive(Drop)]
+pub(crate) struct Writer<'a> {
+    pub(crate) out: &'a mut [u8],
+    pub(crate) at: usize,
+}
 
-/// Writes bytes at a place, and returns the place behind them.
-fn put(out: &mut [u8], at: usize, bytes: &[u8]) -> usize
-    requires { at + length bytes.now ≤ length out.old }
-    ensures { Wrote out.old at bytes.now out.new result }
-{
-    for (i, byte) in bytes.iter().enumerate() {
-        out[at + i] = *byte;
+impl Writer<'_> {
+    ghost use Rattle.listings.specs.Puts.{Puts};
+
+    /// Writes bytes.
+    fn put(&mut self, bytes: &[u8])
+        requires { self.old.at + length bytes.now ≤ length self.old.out.now }
+        ensures { Puts self.old bytes.now self.new }
+    {
+        let end = self.at + bytes.len();
+        self.out[self.at..end].copy_from_slice(bytes);
+        self.at = end;
     }
-    at + bytes.len()
-}
 
-/// Writes an unsigned number in two bytes.
-fn put_u16(out: &mut [u8], at: usize, number: u16) -> usize
-    requires { at + 2 ≤ length out.old }
-    ensures { Wrote out.old at (two number) out.new result }
-{
-    put(out, at, &number.to_be_bytes())
-}
-
-/// Writes a signed number in four bytes.
-fn put_i32(out: &mut [u8], at: usize, number: i32) -> usize
-    requires { at + 4 ≤ length out.old }
-    ensures { Wrote out.old at (signed_four number) out.new result }
-{
-    put(out, at, &number.to_be_bytes())
-}
-
-/// Writes a signed number in eight bytes.
-fn put_i64(out: &mut [u8], at: usize, number: i64) -> usize
-    requires { at + 8 ≤ length out.old }
-    ensures { Wrote out.old at (signed_eight number) out.new result }
-{
-    put(out, at, &number.to_be_bytes())
-}
-
-/// Writes a term.
-pub(crate) fn put_term(out: &mut [u8], at: usize, term: Term) -> usize
-    requires { at + 6 ≤ length out.old }
-    ensures { Wrote out.old at (term_bytes term) out.new result }
-{
-    let after = put_u16(out, at, term.column);
-    put_i32(out, after, term.coefficient)
-}
-
-fn switch_byte(switch: bool) -> u8
-    ensures { result ≡ switch_byte switch }
-{
-    if switch { 1 } else { 0 }
-}
-
-/// Writes the field of a column.
-pub(crate) fn put_column(out: &mut [u8], at: usize, column: Column) -> usize
-    requires { at + 16 ≤ length out.old }
-    ensures { Wrote out.old at (column_bytes column) out.new result }
-{
-    let lower = put(out, at, &[COLUMN_TAG, 0, COLUMN_SIZE]);
-    let upper = put_i32(out, lower, column.lower);
-    let price = put_i32(out, upper, column.upper);
-    let switch = put_i32(out, price, column.price);
-    put(out, switch, &[switch_byte(column.switch)])
-}
-
-/// The byte of the sides that a row has.
-fn side_byte(lower: Option<i64>, upper: Option<i64>) -> u8
-    ensures { result ≡ side_byte lower upper }
-{
-    match (lower, upper) {
-        (Some(_), None) => 1,
-        (None, Some(_)) => 2,
-        (Some(_), Some(_)) => 3,
-        (None, None) => 0,
+    /// Writes a term.
+    fn put_term(&mut self, term: Term)
+        requires { self.old.at + 6 ≤ length self.old.out.now }
+        ensures { Puts self.old (term_bytes term) self.new }
+    {
+        self.put(&term.column.to_be_bytes());
+        self.put(&term.coefficient.to_be_bytes());
     }
-}
 
-/// The number of a side, nought where it is absent.
-fn side_number(side: Option<i64>) -> i64
-    ensures { result ≡ side_number side }
-{
-    match side {
-        Some(z) => z,
-        None => 0,
+    /// Writes the field of a column.
+    fn put_column(&mut self, column: Column)
+        requires { self.old.at + 16 ≤ length self.old.out.now }
+        ensures { Puts self.old (column_bytes column) self.new }
+    {
+        self.put(&[EntryKind::Column.tag(), 0, COLUMN_SIZE]);
+        self.put(&column.lower.to_be_bytes());
+        self.put(&column.upper.to_be_bytes());
+        self.put(&column.price.to_be_bytes());
+        self.put(&[u8::from(column.switch)]);
     }
-}
 
-/// Writes the field of a row up to its terms.
-pub(crate) fn put_head(out: &mut [u8], at: usize, row: Row) -> usize
-    requires { (at + 21 ≤ length out.old) × (row.terms ≤ 500) }
-    ensures { Wrote out.old at (head_bytes row) out.new result }
-{
-    let size = 18 + 6 * row.terms;
-    let length = put(out, at, &[ROW_TAG]);
-    let code = put_u16(out, length, size as u16);
-    let lower = put(out, code, &[row.code, side_byte(row.lower, row.upper)]);
-    let upper = put_i64(out, lower, side_number(row.lower));
-    put_i64(out, upper, side_number(row.upper))
+    /// Writes the field of a row up to its terms.
+    fn put_head(&mut self, row: Row)
+        requires { (self.old.at + 21 ≤ length self.old.out.now) × (row.terms ≤ 500) }
+        ensures { Puts self.old (head_bytes row) self.new }
+    {
+        let size = 18 + 6 * row.terms as u16;
+        self.put(&[EntryKind::Row.tag()]);
+        self.put(&size.to_be_bytes());
+        self.put(&[row.code, side_byte(row.lower, row.upper)]);
+        self.put(&side_number(row.lower).to_be_bytes());
+        self.put(&side_number(row.upper).to_be_bytes());
+    }
+
+    /// Writes the terms of a row.
+    fn put_terms<B: Book>(&mut self, book: &B, row: usize)
+        requires { self.old.at + length (terms_bytes (terms_of (B.Book.meaning book.now) row)) ≤ length self.old.out.now }
+        ensures { Puts self.old (terms_bytes (terms_of (B.Book.meaning book.now) row)) self.new }
+    {
+        for term in Terms::of(book, row) {
+            self.put_term(term);
+        }
+    }
+
+    /// Writes the fields of the columns.
+    pub(crate) fn put_columns<B: Book>(&mut self, book: &B)
+        requires { self.old.at + length (flat_map column_bytes (B.Book.meaning book.now).columns) ≤ length self.old.out.now }
+        ensures { Puts self.old (flat_map column_bytes (B.Book.meaning book.now).columns) self.new }
+    {
+        for column in Columns::of(book) {
+            self.put_column(column);
+        }
+    }
+
+    /// Writes the fields of the rows.
+    pub(crate) fn put_rows<B: Book>(&mut self, book: &B)
+        requires { self.old.at + length (flat_map row_bytes (B.Book.meaning book.now).rows) ≤ length self.old.out.now }
+        ensures { Puts self.old (flat_map row_bytes (B.Book.meaning book.now).rows) self.new }
+    {
+        for (i, row) in Rows::of(book).enumerate() {
+            self.put_head(row);
+            self.put_terms(book, i);
+        }
+    }
 }

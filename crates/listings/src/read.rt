@@ -16,6 +16,7 @@ use books::fault::{BookError, BookFault};
 use listing_fields::read::read_listing;
 use listing_fields::record::ListingRecord;
 use std::alloc::Global;
+use stored_book::book::StoredBook;
 
 /// The book of the lists that records give, which take a listing of this length.
 fn build(
@@ -27,11 +28,9 @@ fn build(
         (λ b. listed_lists b ≡ given (map meant records.now))
         (λ e. (e ≡ Memory) ⊎ ((e ≡ Fault (TooLarge length)) × (sound (given (map meant records.now)) ≡ false))) }
 {
-    let draft = gather(heap, records)?;
-    match draft.finish() {
-        Some(book) => Ok(ListedBook { book }),
-        None => Err(BookError::Fault(BookFault::TooLarge { length })),
-    }
+    let (columns, rows) = gather(heap, records)?;
+    let book = StoredBook::new(columns, rows).ok_or(BookFault::TooLarge { length })?;
+    Ok(ListedBook { book })
 }
 
 impl ListedBook {

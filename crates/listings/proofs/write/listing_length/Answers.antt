@@ -1,61 +1,50 @@
-use Rattle.std.proofs.Common.{◌≡◌, ◌+◌, ◌*◌, length, take, sym, ap, ◌∙◌, arith}
-use Rattle.std.specs.List.{flat_map}
-use Rattle.std.proofs.lemmas.List.{length-append, take_all}
-use Rattle.listings.specs.Writing.{row_bytes}
-use Rattle.listings.proofs.Fews.{kept, kept_terms, found, no_row, found_terms, found_length, length-listing, front_most}
-use Rattle.books.proofs.Nths.{some_within, none_past}
-use Rattle.listings.proofs.Runs.{joined_next}
+use Rattle.std.proofs.Common.{◌≡◌, ◌+◌, ◌*◌, ◌≤◌, length, drop, ap, ◌∙◌, arith}
+use Rattle.std.proofs.lemmas.List.Sums.{sum_by-cons}
+use Rattle.books.specs.declared.part.Row.{Row}
+use Rattle.books.specs.Walks.{heads_of}
+use Rattle.books.proofs.Sounds.{sound_parts}
+use Rattle.listings.proofs.Fews.{taken, taken_most, length-taken}
+use Rattle.listings.proofs.write.listing_length.Given as given
 use Rattle.listings.proofs.write.listing_length.Goals as goal
+use Rattle.listings.proofs.write.listing_length.Goals.{In-Some}
+
+pub loop-row-init : goal.loop-row-init
+loop-row-init g c =
+    let of = c.of-row-items.ensures in
+    let left = ap (λ s. drop s.next (heads_of (g.B.Book.meaning s.book.now))) c.into_iter-row-iterator.ensures.into_iter_gives ∙ (λ i. drop (of.next i) (heads_of (g.B.Book.meaning (of.book i)))) in
+    omega (arith, ap taken left, c.column_count-length.ensures)
+
+-- the length with the row that comes and those left is that of the listing, and that is not long
+more : (g : given.Over) (c : In-Some g) → let b = g.B.Book.meaning c.args.book.now in let t = c.next.new.self in
+    (c.loop-row.length + (21 + 6 * c.in-Some.row.terms) + taken (drop t.next (heads_of (g.B.Book.meaning t.book.now))) ≡ 16 * length b.columns + taken (heads_of b)) × (16 * length b.columns + taken (heads_of b) ≤ 12148000)
+more g c =
+    let b = g.B.Book.meaning c.args.book.now in
+    let kept = g.met.B.Book.kept c.args.book.now in
+    let t = c.next.new.self in
+    let left = ap taken c.in-Some.ensures.steps ∙ sum_by-cons (λ (r : Row). 21 + 6 * r.terms) c.in-Some.row (drop t.next (heads_of (g.B.Book.meaning t.book.now))) in
+    (omega (arith, left, c.loop-row.invariant), omega (arith, taken_most b kept, (sound_parts b kept).few_columns))
 
 pub overflow_mul-length : goal.overflow_mul-length
 overflow_mul-length g c =
-    let few = kept (g.B.Book.meaning c.args.book.now) (g.met.B.Book.kept c.args.book.now) in
-    record { fits = omega (arith, few.columns, c.column_count-length.ensures) }
+    let few = (sound_parts _ (g.met.B.Book.kept c.args.book.now)).few_columns in
+    record { fits = omega (arith, few, c.column_count-length.ensures) }
 
-pub overflow_mul-length-in-Some : goal.overflow_mul-length-in-Some
-overflow_mul-length-in-Some g c =
-    let b = g.B.Book.meaning c.args.book.now in
-    let f = found b c.loop-row.i c.in-Some.row c.in-Some.ensures in
-    record { fits = omega (arith, kept_terms b c.loop-row.i (g.met.B.Book.kept c.args.book.now), found_terms f) }
+pub overflow_mul-length-in-loop-row : goal.overflow_mul-length-in-loop-row
+overflow_mul-length-in-loop-row g c =
+    let m = more g (goal.at.overflow_mul-length-in-loop-row g c).In-Some in record { fits = omega (arith, m.0, m.1) }
 
 pub overflow_add-length : goal.overflow_add-length
 overflow_add-length g c =
-    let b = g.B.Book.meaning c.args.book.now in
-    let f = found b c.loop-row.i c.in-Some.row c.in-Some.ensures in
-    record { fits = omega (arith, kept_terms b c.loop-row.i (g.met.B.Book.kept c.args.book.now), found_terms f) }
+    let m = more g (goal.at.overflow_add-length g c).In-Some in record { fits = omega (arith, m.0, m.1) }
 
-pub overflow_add-length-in-Some : goal.overflow_add-length-in-Some
-overflow_add-length-in-Some g c =
-    let b = g.B.Book.meaning c.args.book.now in
-    let sound = g.met.B.Book.kept c.args.book.now in
-    let f = found b c.loop-row.i c.in-Some.row c.in-Some.ensures in
-    record { fits = omega (arith, c.loop-row.invariant.0, front_most b c.loop-row.i sound, (kept b sound).columns, kept_terms b c.loop-row.i sound, found_terms f) }
-
-pub overflow_add-i : goal.overflow_add-i
-overflow_add-i g c =
-    let few = kept (g.B.Book.meaning c.args.book.now) (g.met.B.Book.kept c.args.book.now) in
-    record { fits = omega (arith, few.rows, c.loop-row.invariant.1) }
-
-pub loop-row-smaller : goal.loop-row-smaller
-loop-row-smaller g c =
-    let b = g.B.Book.meaning c.args.book.now in
-    let f = found b c.loop-row.i c.in-Some.row c.in-Some.ensures in
-    omega (arith, some_within b.rows c.loop-row.i f.full f.here)
+pub overflow_add-length-in-loop-row : goal.overflow_add-length-in-loop-row
+overflow_add-length-in-loop-row g c =
+    let m = more g (goal.at.overflow_add-length-in-loop-row g c).In-Some in record { fits = omega (arith, m.0, m.1) }
 
 pub loop-row-preserved : goal.loop-row-preserved
-loop-row-preserved g c =
-    let b = g.B.Book.meaning c.args.book.now in
-    let i = c.loop-row.i in
-    let f = found b i c.in-Some.row c.in-Some.ensures in
-    let next : length (flat_map row_bytes (take (i + 1) b.rows)) ≡ length (flat_map row_bytes (take i b.rows)) + length (row_bytes f.full) =
-    ap length (joined_next row_bytes b.rows i f.full f.here)
-    ∙ length-append (flat_map row_bytes (take i b.rows)) (row_bytes f.full) in
-    (omega (arith, next, c.loop-row.invariant.0, found_length f), omega (arith, some_within b.rows i f.full f.here))
+loop-row-preserved g c = (more g (goal.at.loop-row-preserved g c).In-Some).0
 
 pub returns : goal.returns
 returns g c =
     let b = g.B.Book.meaning c.args.book.now in
-    let all = take_all c.loop-row.i b.rows (none_past b.rows c.loop-row.i (no_row b c.loop-row.i c.in_default.ensures)) in
-    c.loop-row.invariant.0
-    ∙ ap (λ l. 16 * length b.columns + length (flat_map row_bytes l)) all
-    ∙ sym (length-listing b)
+    omega (arith, c.loop-row.invariant, ap taken c.in-None.ensures.steps.0, length-taken b)
