@@ -63,6 +63,7 @@ impl AddedRow {
 }
 
 /// At most 32 rows.
+// Kept: a rule of the project has the added rows in a plain table, of which one element is written by a method of its own.
 #[derive(Drop)]
 pub struct Table {
     rows: [AddedRow; 32],

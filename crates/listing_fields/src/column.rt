@@ -16,6 +16,7 @@ use fields::fault::FaultKind;
 use fields::number::Number;
 
 /// A column as it is written.
+// Kept: the length of a field is judged before its numbers, so the byte of the switch stands here until it is read for what it means.
 #[derive(Clone, Copy)]
 struct ColumnField {
     lower: i32,

@@ -17,6 +17,7 @@ use fields::fault::FaultKind;
 use fields::number::Number;
 
 /// A row as it is written.
+// Kept: the length of a field is judged before its numbers, so the byte of the sides stands here until it is read for what it means.
 #[derive(Clone, Copy)]
 struct RowField<'a> {
     code: u8,
