@@ -11,6 +11,7 @@ pub struct Column {
 }
 
 /// A row without its terms, of which it has the number. A side that is absent does not bind.
+// Kept: the code is a number and the sides are `Option`s of plain numbers by rules of the project: the table of clauses is by code, and listings write it.
 #[derive(Clone, Copy, PartialEq, Eq, Debug)]
 pub struct Row {
     pub code: u8,

@@ -27,6 +27,7 @@ impl ClauseBook {
     }
 }
 
+// Kept: there is one trait with the five questions, and an impl that a macro writes is refused; so a book around another hands each question on.
 impl Book for ClauseBook {
     ghost meaning = { clause_lists };
 

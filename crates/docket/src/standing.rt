@@ -15,6 +15,7 @@ pub struct Labelled {
 
 /// What stands: the best net benefit accepted so far and the lowest bound, in fine units, each with the label that first reached it,
 /// and the gap between them, in fine units. What is not there yet is absent.
+// Kept: a rule of the project has what stands as `Option`s of plain numbers.
 #[derive(Clone, Copy, PartialEq, Eq, Debug)]
 pub struct Standing {
     pub best_label: Option<u32>,

@@ -6,6 +6,7 @@ use books::part::Place;
 use certificates::fault::DocketFault;
 
 /// The answer to a certificate.
+// Kept: a rule of the project has a refusal as number, place and clause.
 #[derive(Clone, Copy, PartialEq, Eq, Debug)]
 pub enum Verdict {
     /// Accepted, with its net benefit or its bound.

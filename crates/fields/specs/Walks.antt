@@ -6,9 +6,9 @@ use Rattle.fields.specs.declared.fault.FaultKind.TheVariants.{PastEnd}
 use Rattle.fields.specs.declared.head.Field.{Field}
 use Rattle.fields.specs.declared.walk.Fields.{Fields}
 
--- bytes begin with this field and go on with the rest, or they begin with none
+-- bytes begin with this field and go on with the rest, or they begin with none, and nothing is left
 abbrev pub IsCut : List ℕ → Result Field FaultKind → List ℕ → Type 0
-IsCut bs field rest = MatchResult field (λ f. Begins bs f.tag f.body.now rest) (λ k. (k ≡ PastEnd) × Cut bs)
+IsCut bs field rest = MatchResult field (λ f. Begins bs f.tag f.body.now rest) (λ k. (k ≡ PastEnd) × Cut bs × (rest ≡ []))
 
 -- one step from what is left: its place, and the field that it begins with, or that it begins with none
 pub record Step (s : Fields) (at : ℕ) (field : Result Field FaultKind) (t : Fields) : Type 0 where

@@ -1,11 +1,14 @@
 -- From field to field of an input.
-use Rattle.std.proofs.Common.{◌≡◌, ℕ, ◌-◌, ◌<◌, true, false, List, [], ◌∷◌, ◌++◌, length, take, drop, sym, refl, ap, ◌∙◌, subst, ⊎_elim, append_assoc, Result, Ok, Err, Some, arith}
-use Rattle.std.specs.Result.{result_ok}
-use Rattle.std.proofs.lemmas.List.{length-append, append-nil, take_all, drop_all}
+use Rattle.std.proofs.Common.{◌≡◌, ℕ, ◌-◌, ◌<◌, true, false, List, [], ◌∷◌, ◌++◌, length, take, drop, sym, refl, ap, ◌∙◌, subst, ⊎_elim, append_assoc, ◌≤◌, ◌⊎◌, inl, inr, Result, Ok, Err, arith}
+use Rattle.std.proofs.lemmas.List.{length-append, append-nil, take_all, drop_all, take_rest}
 use Rattle.fields.specs.Fields.{field, Begins, Cut}
+use Rattle.fields.specs.Walks.{IsCut, Step}
+use Rattle.fields.specs.declared.fault.FaultKind.{FaultKind}
+use Rattle.fields.specs.declared.head.Field.{Field}
+use Rattle.fields.specs.declared.walk.Fields.{Fields}
 use Rattle.fields.proofs.Loops.{sizes}
 use Rattle.inputs.specs.Parts.{CasePart, at_end, at_certificate, at_cut, past_field, FieldsOf, one_whole, one_cut, none_left, CutsOff}
-use Rattle.inputs.specs.Walks.{certificate_in_front, Stops, Passes}
+use Rattle.inputs.specs.Walks.{certificate_in_front, Passes}
 
 -- ---- a front and what follows it
 
@@ -104,15 +107,51 @@ ends_there input left w e =
     subst (λ (x : List ℕ). CasePart input x (drop (length input - length left) input)) (sym a.taken)
     (subst (CasePart input w.front) (sym a.dropped) (subst (λ (x : List ℕ). CasePart input x left) (append-nil w.front) (w.on [] left (begins_certificate left e))))
 
--- none stands there, and the walk stops: all is the case
-pub ends_all : (input left : List ℕ) → Walked input left → Stops left → certificate_in_front left ≡ false → CasePart input (take (length input) input) (drop (length input) input)
-ends_all input left w s e =
-    let cut = ⊎_elim (λ t. absurd (let z : ◌≡◌ {A = ℕ} 0 1 = cc in omega arith)) (λ p. p.1) s in
-    subst (λ (x : List ℕ). CasePart input x (drop (length input) input)) (sym (take_all (length input) input (omega arith)))
-    (subst (CasePart input input) (sym (drop_all (length input) input (omega arith)))
-    (subst (λ (x : List ℕ). CasePart input x []) (sym w.bytes) (w.on left [] (cut_there left e cut))))
+-- the walk over fields has come to what is left, or past a last field that passes the end
+pub record Going (input : List ℕ) (s : Fields) : Type 0 where
+  pub same : s.input.now ≡ input
+  pub either : Walked input s.rest.now ⊎ ((CasePart input input []) × (s.rest.now ≡ []))
 
--- what a result that was read as an option is
-pub ok_from : {X E : Type 0} (r : Result X E) (x : X) → result_ok r ≡ Some x → r ≡ Ok x
-ok_from (Ok y) x e = let same : y ≡ x = cc in ap Ok same
-ok_from (Err d) x e = let z : ◌≡◌ {A = ℕ} 0 1 = cc in absurd (omega arith)
+pub goes_from : (input : List ℕ) (s : Fields) → s.input.now ≡ input → s.rest.now ≡ input → Going input s
+goes_from input s e f = record { same = e; either = inl (subst (Walked input) (sym f) (starts input)) }
+
+-- a step takes the walk on from its place, where what is left stands
+module _ (input : List ℕ) (s t : Fields) (at : ℕ) (found : Result Field FaultKind) (g : Going input s) (p : Step s at found t) where
+  walked : Walked input s.rest.now
+  walked = ⊎_elim (λ w. w) (λ q. absurd (let some = p.some in omega (arith, some, ap length q.1))) g.either
+
+  there : at ≡ length input - length s.rest.now
+  there = p.place ∙ ap (λ l. length l - length s.rest.now) g.same
+
+  pub place_within : at ≤ length input
+  place_within = let e = there in omega arith
+
+  left_there : take (length input - at) (drop at input) ≡ s.rest.now
+  left_there =
+      take_rest input at ∙ ap (λ n. drop n input) there ∙ (apart input walked.front s.rest.now walked.bytes).dropped
+
+  pub ends_before : true ≡ certificate_in_front (take (length input - at) (drop at input)) → CasePart input (take at input) (drop at input)
+  ends_before e =
+      subst (λ n. CasePart input (take n input) (drop n input)) (sym there)
+      (ends_there input s.rest.now walked (sym (e ∙ ap certificate_in_front left_there)))
+
+  whole : (r : Result Field FaultKind) → false ≡ certificate_in_front s.rest.now → IsCut s.rest.now r t.rest.now → Walked input t.rest.now ⊎ ((CasePart input input []) × (t.rest.now ≡ []))
+  whole (Ok f) e c = inl (moves input s.rest.now t.rest.now walked (passes s.rest.now f.tag f.body.now t.rest.now (sym e) c))
+  whole (Err k) e c =
+      inr (subst (λ (x : List ℕ). CasePart input x []) (sym walked.bytes) (walked.on s.rest.now [] (cut_there s.rest.now (sym e) c.1)), c.2)
+
+  pub goes_on : false ≡ certificate_in_front (take (length input - at) (drop at input)) → Going input t
+  goes_on e =
+      record { same = p.input ∙ g.same; either = whole found (e ∙ ap certificate_in_front left_there) p.cut }
+
+-- the walk is over: all is the case
+pub ends_all : (input : List ℕ) (s : Fields) → Going input s → s.rest.now ≡ [] → CasePart input (take (length input) input) (drop (length input) input)
+ends_all input s g e =
+    let all : CasePart input input [] = ⊎_elim (λ w. at_last w) (λ q. q.0) g.either in
+    subst (λ (x : List ℕ). CasePart input x (drop (length input) input)) (sym (take_all (length input) input (omega arith)))
+    (subst (CasePart input input) (sym (drop_all (length input) input (omega arith))) all)
+  where
+    at_last : Walked input s.rest.now → CasePart input input []
+    at_last w =
+        let front : input ≡ w.front ++ [] = w.bytes ∙ ap (λ l. w.front ++ l) e in
+        subst (λ (x : List ℕ). CasePart input x []) (sym front) (w.on [] [] (subst (λ (x : List ℕ). CasePart x [] []) (sym e) at_end))

@@ -1,9 +1,9 @@
 //! Where the case of an input ends.
-ghost use Rattle.std.specs.Prelude.{◌≡◌, ℕ, ◌≤◌, true, false, List, length, take, drop, MatchOption};
+ghost use Rattle.std.specs.Prelude.{◌≡◌, ◌≤◌, length, take, drop};
 ghost use Rattle.inputs.specs.Parts.{is_certificate_tag, CasePart};
-ghost use Rattle.inputs.specs.Walks.{Stops, Passes, certificate_in_front};
+ghost use Rattle.inputs.specs.Walks.{certificate_in_front};
 
-use fields::head::cut_field;
+use fields::walk::Fields;
 
 /// Whether certificates have the tag.
 fn is_certificate_tag(tag: u8) -> bool
@@ -16,21 +16,7 @@ fn is_certificate_tag(tag: u8) -> bool
 fn begins_certificate(bytes: &[u8]) -> bool
     ensures { result ≡ certificate_in_front bytes.now }
 {
-    match bytes {
-        [tag, ..] => is_certificate_tag(*tag),
-        [] => false,
-    }
-}
-
-/// What follows the field in front, if it is whole and no certificate.
-fn past_field(bytes: &[u8]) -> Option<&[u8]>
-    ensures { MatchOption result (Stops bytes.now) (λ after. Passes bytes.now after.now) }
-{
-    if begins_certificate(bytes) {
-        return None;
-    }
-    let (_, after) = cut_field(bytes).ok()?;
-    Some(after)
+    matches!(bytes, [tag, ..] if is_certificate_tag(*tag))
 }
 
 /// The number of bytes of the case that an input begins with.
@@ -38,13 +24,10 @@ pub fn case_length(input: &[u8]) -> usize
     ensures short { result ≤ length input.now }
     ensures part { CasePart input.now (take result input.now) (drop result input.now) }
 {
-    let mut left = input;
-    while let Some(after) = past_field(left) {
-        left = after;
+    for (offset, _) in Fields::of(input) {
+        if begins_certificate(&input[offset..]) {
+            return offset;
+        }
     }
-    if begins_certificate(left) {
-        input.len() - left.len()
-    } else {
-        input.len()
-    }
+    input.len()
 }

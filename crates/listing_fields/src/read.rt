@@ -74,6 +74,7 @@ impl Before {
 }
 
 /// The records of a listing, in the order of its fields, or its first fault.
+// Kept: a case is read by such a loop too; what is kept between fields and asked at the end is another, and a trait of these would be longer than both loops.
 pub fn read_listing<'a>(heap: Global, input: &'a [u8]) -> Result<Vec<ListingRecord<'a>>, ReadError>
     ensures reads { MatchResult result
         (λ v. IsFile listing_format input.now (map meant v.items))
