@@ -10,7 +10,7 @@ use Rattle.fields.proofs.Injective.{length-signed_four, signed_four_one}
 use Rattle.case_fields.specs.declared.part.Block.{Block}
 use Rattle.case_fields.specs.declared.part.Point.{Point}
 use Rattle.case_fields.specs.Parts.{pairs_in, block_of, point_of, blocks_in, points_in, blocks_bytes, points_bytes}
-use Rattle.case_fields.specs.Held.{by_eights, pairs_none, held_parts}
+use Rattle.case_fields.specs.Held.{by_eights, pairs_none}
 use Rattle.case_fields.specs.Encoding.{BlocksWritten, PointsWritten}
 
 -- four bytes read back as the signed number that is written so
@@ -30,9 +30,6 @@ part_read of t x y h k e f =
     ap (λ l. map of (pairs_in l)) (e ∙ ap (λ l. signed_four x ++ l) f)
     ∙ ap (map of) (front_pair x y t h k)
     ∙ (λ i. of (sym (to_z-of_z w32 x h) i, sym (to_z-of_z w32 y k) i) ∷ map of (pairs_in t))
-
-pub length-parts : {X : Type 0} (of : ℤ × ℤ → X) (bs : List ℕ) → length bs / 8 ≡ length (map of (pairs_in bs))
-length-parts of bs = sym ((held_parts of).count bs)
 
 -- a number that was read fits its four bytes
 number_fits : (a b c d : ℕ) → a < 256 → b < 256 → c < 256 → d < 256 → SFits w32 (to_z w32 (a * 16777216 + b * 65536 + c * 256 + d))
