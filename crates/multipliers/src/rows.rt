@@ -38,20 +38,16 @@ fn check_rows<B: Book, T: Fn(Row, i64) -> bool>(
 pub(crate) fn check_sizes<B: Book>(book: &B, values: Multipliers<'_>) -> Result<(), DocketFault>
     ensures { result ≡ passed (first_large 0 (B.Book.meaning book.now).rows (multipliers values.entry.bytes.now)) }
 {
-    check_rows(book, values, |_, y| multiplier_reaches(y)).map_err(|(
-        row,
-        code,
-    )| DocketFault::MultiplierBeyond { row, code })
+    let checked = check_rows(book, values, |_, y| multiplier_reaches(y));
+    checked.map_err(|(row, code)| DocketFault::MultiplierBeyond { row, code })
 }
 
 /// The first row without the side that its multiplier takes is the fault.
 pub(crate) fn check_sides<B: Book>(book: &B, values: Multipliers<'_>) -> Result<(), DocketFault>
     ensures { result ≡ passed (first_sideless 0 (B.Book.meaning book.now).rows (multipliers values.entry.bytes.now)) }
 {
-    check_rows(book, values, |row, y| has_side(y, row)).map_err(|(
-        row,
-        code,
-    )| DocketFault::SideAbsent { row, code })
+    let checked = check_rows(book, values, |row, y| has_side(y, row));
+    checked.map_err(|(row, code)| DocketFault::SideAbsent { row, code })
 }
 
 /// What the rows add, in order.

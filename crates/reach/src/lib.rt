@@ -16,6 +16,7 @@ fn within(z: i64) -> Option<i64>
     (LOW..=HIGH).contains(&z).then_some(z)
 }
 
+// Kept: sum and difference, and more and less, are two steps in one line each; one function that takes the step as a closure is no plainer.
 /// The sum, if it lies within the reach.
 pub fn sum(a: i64, b: i64) -> Option<i64>
     ensures { result ≡ reach (a +ℤ b) }

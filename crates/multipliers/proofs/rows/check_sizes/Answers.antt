@@ -7,6 +7,6 @@ use Rattle.multipliers.proofs.rows.check_sizes.Goals as goal
 pub returns : goal.returns
 returns g c =
     let b = g.B.Book.meaning c.args.book.now in
-    sizes_checked b (multipliers c.args.values.bytes.now) c.check_rows.result c.map_err.result _
-    (c.check_rows.ensures (λ _ y. multiplier_reaches y) (λ r y t fits p. search rules))
+    sizes_checked b (multipliers c.args.values.bytes.now) c.check_rows-checked.result c.map_err.result _
+    (c.check_rows-checked.ensures (λ _ y. multiplier_reaches y) (λ r y t fits p. search rules))
     (λ e f p. search rules) c.map_err.ensures.cases
