@@ -20,7 +20,7 @@ impl Position {
     fn node_place(self, node: u16) -> usize
         ensures { result ≡ at self.kinds.nodes node }
     {
-        self.kinds.nodes.first + node as usize
+        self.kinds.nodes.first + usize::from(node)
     }
 
     /// The columns of a node.
