@@ -5,10 +5,8 @@ ghost use Rattle.case_text.specs.Outcomes.{Becomes};
 use case_fields::read::read_case;
 use case_fields::record::CaseRecord;
 use fields::fault::{FieldFault, ReadError};
+pub use inputs::limit::INPUT_LIMIT;
 use std::alloc::{AllocError, Global};
-
-/// The most bytes that a program takes.
-pub const INPUT_LIMIT: usize = 65_536;
 
 /// What becomes of an input.
 #[derive(Drop)]
