@@ -81,7 +81,7 @@ impl Clauses<'_> {
 }
 
 /// The rows of a case over the columns of a table, in file order.
-/// They are refused as out of range exactly where the number of a column has more than 16 bits or a coefficient more than 32,
+/// They are refused as out of range only where the number of a column has more than 16 bits or a coefficient more than 32,
 /// which no case brings about that has its numbers in range and at most 4,000 columns.
 pub fn rows_of(
     heap: Global,
