@@ -32,3 +32,7 @@ Makes cs d r = MatchResult r (λ s. full_row s ≡ row_of cs d) (λ e. e ≡ Out
 abbrev pub MakesAll : List Named → List Clause → Result (Vec StoredRow Global) ClauseError → Type 0
 MakesAll cs ds r =
     MatchResult r (λ v. rows_in v ≡ map (row_of cs) ds) (λ e. e ≡ OutOfRange → list_all holds_row (map (row_of cs) ds) ≡ false)
+
+-- rows are refused as out of range only where one has a term that does not fit
+abbrev pub IsRefused : {X : Type 0} → List Named → List Clause → Result X ClauseError → Type 0
+IsRefused cs ds r = MatchResult r (λ _. Unit {0}) (λ e. e ≡ OutOfRange → list_all holds_row (map (row_of cs) ds) ≡ false)

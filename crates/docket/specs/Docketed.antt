@@ -1,10 +1,12 @@
 -- A docket, as its callers see it, and what laying a certificate on it does.
-use Rattle.std.specs.Prelude.{◌≡◌, true, List, [], ◌∷◌, ◌++◌}
+use Rattle.std.specs.Prelude.{◌≡◌, true, Option, List, [], ◌∷◌, ◌++◌}
 use Rattle.books.specs.Lists.{Lists}
+use Rattle.docket.specs.declared.standing.Labelled.{Labelled}
 use Rattle.docket.specs.declared.standing.Standing.{Standing}
 use Rattle.docket.specs.declared.verdict.Verdict.{Verdict}
 use Rattle.docket.specs.Calls.{Laid, RightVerdict}
 use Rattle.docket.specs.Standings.{StandingOf}
+use Rattle.docket.specs.Labels.{standing_by, best_fits, bound_fits}
 use Rattle.docket.specs.Verdicts.{is_refused}
 
 -- the book that a docket stands on, and what stands
@@ -25,3 +27,11 @@ pub record Lays {X : Type 0} (meaning : X → Lists) (c : Laid) (w : Verdict) (b
   pub book : after.book ≡ before.book
   -- a refusal leaves the docket as it was
   pub refused : is_refused w ≡ true → after ≡ before
+
+-- what stands is a best net benefit and a lowest bound within their reaches, each with its label, or none, and the gap between them
+pub record IsStanding (s : Standing) : Type 0 where
+  pub best : Option Labelled
+  pub bound : Option Labelled
+  pub same : s ≡ standing_by best bound
+  pub best_within : best_fits best ≡ true
+  pub bound_within : bound_fits bound ≡ true

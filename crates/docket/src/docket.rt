@@ -2,7 +2,7 @@
 ghost use Rattle.std.specs.Prelude.{◌≡◌, [], IfOk, None};
 ghost use Rattle.fields.specs.declared.certificate.CertificateKind.TheVariants.{Schedule, Multipliers};
 ghost use Rattle.docket.specs.Calls.{laid};
-ghost use Rattle.docket.specs.Docketed.{Lays};
+ghost use Rattle.docket.specs.Docketed.{Lays, IsStanding};
 ghost use Rattle.docket.specs.Standings.{StandingOf};
 ghost use Rattle.docket.specs.Labels.{standing_by};
 
@@ -54,7 +54,8 @@ impl<'a, B: Book> Docket<'a, B> {
 
     /// What stands.
     pub fn standing(&self) -> Standing
-        ensures { result ≡ self.now.standing }
+        ensures value { result ≡ self.now.standing }
+        ensures figures { IsStanding result }
     {
         Standing {
             best_label: self.best.map(|best| best.label),

@@ -63,12 +63,7 @@ impl Model<'_> {
     }
 
     /// Shows a row between the sides that it has; a row of no terms is nought.
-    fn show_row<W: fmt::Write>(
-        self,
-        i: usize,
-        row: Row,
-        f: &mut fmt::Formatter<W>,
-    ) -> fmt::Result {
+    fn show_row<W: fmt::Write>(self, i: usize, row: Row, f: &mut fmt::Formatter<W>) -> fmt::Result {
         if let Some(clause) = clause_of(row.code) {
             let text = clause.text;
             write!(f, "row {i} {text}: ")?;

@@ -67,6 +67,7 @@ fn is_like(book: &ClauseBook, j: usize, name: Name) -> bool
 fn parts_before(book: &ClauseBook, name: Name, j: usize) -> usize
     ensures { result ≡ parts_before (named_in book.now) name j }
 {
+    // Kept: `(0..j).rev().take_while(..).count()` was tried; that it counts what `parts_before` counts stayed open.
     let mut n = 0;
     for i in (0..j).rev() {
         if !is_like(book, i, name) {

@@ -9,10 +9,8 @@ use Rattle.docket.specs.Runs.{laid_by}
 use Rattle.verdicts.specs.declared.outcome.Outcome.{Outcome}
 use Rattle.verdicts.specs.declared.outcome.Outcome.TheVariants.{InputRefused, CaseRefused, Judged}
 use Rattle.verdicts.specs.Outcomes.{Becomes}
-use Rattle.docket.specs.declared.standing.Standing.{Standing}
-use Rattle.docket.specs.Texts.{stands_text}
 use Rattle.books.specs.Places.{place_text}
-use Rattle.verdict_text.specs.Texts.{line_text}
+use Rattle.verdict_text.specs.Texts.{line_text, standing_text}
 
 -- a line for each call, in order
 abbrev pub lines_text : List Call → List Answer → List ℕ
@@ -26,10 +24,6 @@ refused_case_text n p = codes "case refused " ++ (decimal n ++ (codes " " ++ (pl
 
 abbrev pub fault_text : BookFault → List ℕ
 fault_text f = refused_case_text (rule f).number (rule f).place
-
--- the line of what stands
-abbrev pub standing_text : Standing → List ℕ
-standing_text s = codes "standing " ++ (stands_text s ++ codes "\n")
 
 abbrev pub outcome_text : Outcome → List ℕ
 outcome_text InputRefused = codes "input refused\n"

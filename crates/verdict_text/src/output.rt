@@ -2,7 +2,7 @@
 ghost use Rattle.std.specs.Prelude.{◌≡◌, IfOk, string_bytes};
 ghost use Rattle.verdict_text.specs.Outputs.{outcome_text, Output};
 
-use crate::text::Lines;
+use crate::text::{Lines, StandingLine};
 use std::alloc::{AllocError, Global};
 use std::fmt;
 use verdicts::outcome::{Outcome, outcome_of};
@@ -30,8 +30,8 @@ impl fmt::Display for Report<'_> {
                     calls: judgement.calls.as_slice(),
                     answers: judgement.run.answers.as_slice(),
                 };
-                let standing = judgement.run.standing;
-                writeln!(f, "{lines}standing {standing}")
+                let standing = StandingLine(judgement.run.standing);
+                write!(f, "{lines}{standing}")
             }
         }
     }

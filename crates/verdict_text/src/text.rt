@@ -1,5 +1,6 @@
 //! The lines of verdicts.
 use docket::run::{Answer, Call};
+use docket::standing::Standing;
 use docket::text::OrDash;
 use docket::verdict::Verdict;
 use inputs::certificate::label_of;
@@ -24,6 +25,22 @@ impl fmt::Display for Line<'_> {
         let label = OrDash(label_of(self.call.field));
         let verdict = self.verdict;
         writeln!(f, "{kind} {label} {verdict}")
+    }
+}
+
+/// The line of what stands.
+#[derive(Clone, Copy, Drop)]
+pub struct StandingLine(pub Standing);
+
+impl fmt::Display for StandingLine {
+    ghost use Rattle.std.specs.Prelude.{Some};
+    ghost use Rattle.verdict_text.specs.Texts.{standing_text};
+
+    ghost output = { λ s. Some (standing_text s.0) };
+
+    fn fmt<W: fmt::Write>(&self, f: &mut fmt::Formatter<W>) -> fmt::Result {
+        let standing = self.0;
+        writeln!(f, "standing {standing}")
     }
 }
 
