@@ -65,5 +65,5 @@ pub fn clause_of(code: u8) -> Option<Clause>
     ensures clause { option_map entry_of result ≡ clause_at code }
     ensures ruled { TableRuled }
 {
-    entry_at(&CLAUSES, code as usize)
+    entry_at(&CLAUSES, usize::from(code))
 }

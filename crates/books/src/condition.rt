@@ -5,7 +5,7 @@ ghost use Rattle.books.specs.Conditions.{sound_column, sound_side, sides_in_orde
 
 use crate::part::Column;
 use listing_fields::range::{are_limits, is_price, is_side};
-use listing_fields::term::{Term, are_in_range, refer, rise};
+use listing_fields::term::{Term, slice_in_range, slice_refers, slice_rises};
 
 impl Column {
     /// Whether the limits, if they are those of a switch, are within 0 and 1.
@@ -52,7 +52,5 @@ pub fn are_sound_sides(lower: Option<i64>, upper: Option<i64>) -> bool
 pub fn are_sound_terms(columns: usize, terms: &[Term]) -> bool
     ensures { result ≡ (terms_in_range terms.now && terms_refer columns terms.now && terms_rise 0 terms.now) }
 {
-    are_in_range(terms.iter().copied())
-        && refer(columns, terms.iter().copied())
-        && rise(terms.iter().copied())
+    slice_in_range(terms) && slice_refers(columns, terms) && slice_rises(terms)
 }

@@ -60,7 +60,7 @@ impl From<FieldFault> for BookFault {
 }
 
 /// Why there is no book.
-// Kept: it has the shape of `ReadError`; one generic error would be of another crate here, so that the conversions below could not be written for it.
+// Kept: it has the shape of `ReadError`; one generic error would be of another crate here, so that its conversion from `ReadError` could not be written.
 #[derive(Clone, Copy, PartialEq, Eq, Debug)]
 pub enum BookError {
     /// There was no memory for it.

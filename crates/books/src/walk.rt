@@ -8,7 +8,7 @@ use crate::part::{Column, Row};
 use listing_fields::term::Term;
 
 /// The columns of a book that are left.
-// Kept: the three walks differ in the question that they put; one walk over a trait of questions would be that trait, its three impls and the walk.
+// Kept: the three walks differ in the question that they put; one walk over a trait of questions would be that trait, its three impls and the walk, and one over a closure would be an iterator of which no contract names the book.
 #[derive(Clone, Copy)]
 pub struct Columns<'b, B> {
     pub book: &'b B,

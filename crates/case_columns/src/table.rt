@@ -8,6 +8,7 @@ use crate::name::Named;
 pub struct Table {
     named: Vec<Named>,
     /// The number of each record's first column.
+    // Kept: with it the first column of a record is found at once, so that rows are built in near linear time.
     starts: Vec<usize>,
     ghost low: { Low named.items starts.items },
     ghost placed: { Placed named.items starts.items },

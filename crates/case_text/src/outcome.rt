@@ -29,7 +29,7 @@ pub fn outcome_of<'a>(heap: Global, input: &'a [u8]) -> Result<Outcome<'a>, Allo
     match read_case(heap, input) {
         Ok(records) => Ok(Outcome::Case(records)),
         Err(ReadError::Field(fault)) => Ok(Outcome::CaseRefused(fault)),
-        // Kept: `ReadError::Memory` holds no `AllocError` to hand on; with one, the clauses `e ≡ Memory` of its public callers would change.
+        // Kept: `ReadError::Memory` holds no `AllocError` that could be returned; with one, each clause `e ≡ Memory` would name it, and be no plainer.
         Err(ReadError::Memory) => Err(AllocError),
     }
 }

@@ -27,7 +27,7 @@ impl ClauseBook {
     }
 }
 
-// Kept: there is one trait with the five questions, and an impl that a macro writes is refused; so a book around another hands each question on.
+// Kept: there is one trait with the five questions, and an impl that a macro writes is refused; so a book around another asks it each question.
 impl Book for ClauseBook {
     ghost meaning = { clause_lists };
 

@@ -1,14 +1,20 @@
 -- The one field of a certificate: a label, then the numbers of a schedule or of a set of multipliers.
-use Rattle.std.specs.Prelude.{ℕ, ◌<◌, ◌⊎◌, List, [], ◌++◌, length, codes, ◌≢◌}
+use Rattle.std.specs.Prelude.{◌≡◌, ℕ, ◌<◌, ◌⊎◌, List, [], ◌++◌, length, codes, Result, MatchResult, ◌≢◌}
 use Rattle.fields.specs.Bytes.{four}
 use Rattle.fields.specs.Faults.{Checks}
 use Rattle.fields.specs.Fields.{Begins, Cut, InField}
+use Rattle.fields.specs.declared.fault.FaultKind.{FaultKind}
+use Rattle.fields.specs.declared.fault.FaultKind.TheVariants.{UnknownTag}
 use Rattle.fields.specs.declared.certificate.CertificateKind.{CertificateKind}
 use Rattle.fields.specs.declared.certificate.CertificateKind.TheVariants.{Schedule, Multipliers}
 
 abbrev pub certificate_tag : CertificateKind → ℕ
 certificate_tag Schedule = 20
 certificate_tag Multipliers = 21
+
+-- the kind that a tag names, or that none does
+abbrev pub IsKind : ℕ → Result CertificateKind FaultKind → Type 0
+IsKind t r = MatchResult r (λ k. t ≡ certificate_tag k) (λ e. (e ≡ UnknownTag) × ((k : CertificateKind) → t ≢ certificate_tag k))
 
 -- the word for a kind
 abbrev pub kind_text : CertificateKind → List ℕ

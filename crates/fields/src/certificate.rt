@@ -30,6 +30,22 @@ impl CertificateKind {
     }
 }
 
+impl TryFrom<u8> for CertificateKind {
+    type Error = FaultKind;
+
+    ghost use Rattle.fields.specs.Certificates.{IsKind};
+
+    ghost try_from_gives = { IsKind };
+
+    fn try_from(tag: u8) -> Result<CertificateKind, FaultKind> {
+        match tag {
+            20 => Ok(CertificateKind::Schedule),
+            21 => Ok(CertificateKind::Multipliers),
+            _ => Err(FaultKind::UnknownTag),
+        }
+    }
+}
+
 impl fmt::Display for CertificateKind {
     ghost use Rattle.std.specs.Prelude.{Some};
     ghost use Rattle.fields.specs.Certificates.{kind_text};

@@ -23,7 +23,7 @@ pub fn cut_field(input: &[u8]) -> Result<(Field<'_>, &[u8]), FaultKind>
     let [tag, high, low, rest @ ..] = input else {
         return Err(FaultKind::PastEnd);
     };
-    let long = u16::from_be_bytes([*high, *low]) as usize;
+    let long = usize::from(u16::from_be_bytes([*high, *low]));
     if rest.len() < long {
         return Err(FaultKind::PastEnd);
     }

@@ -8,8 +8,8 @@ use crate::head::{Field, cut_field};
 /// The fields of a file that are left. Behind one that passes the end nothing is left.
 #[derive(Drop)]
 pub struct Fields<'a> {
-    input: &'a [u8],
-    rest: &'a [u8],
+    pub input: &'a [u8],
+    pub rest: &'a [u8],
     ghost within: { length rest.now ≤ length input.now },
 }
 

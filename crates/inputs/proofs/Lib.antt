@@ -1,3 +1,4 @@
 pub mod Walking
 pub mod Determined
 pub mod Limited
+pub mod Tags

@@ -3,13 +3,14 @@ ghost use Rattle.std.specs.Prelude.{◌≡◌, ◌≤◌, length, take, drop};
 ghost use Rattle.inputs.specs.Parts.{is_certificate_tag, CasePart};
 ghost use Rattle.inputs.specs.Walks.{certificate_in_front};
 
+use fields::certificate::CertificateKind;
 use fields::walk::Fields;
 
 /// Whether certificates have the tag.
 fn is_certificate_tag(tag: u8) -> bool
     ensures { result ≡ is_certificate_tag tag }
 {
-    tag == 20 || tag == 21
+    CertificateKind::try_from(tag).is_ok()
 }
 
 /// Whether the bytes begin with the tag of a certificate.

@@ -70,7 +70,7 @@ impl Element for Term {
 pub type Terms<'a> = Sequence<'a, Term>;
 
 /// Whether the coefficient of each term is in range.
-pub fn are_in_range<I: Iterator<Item = Term> + Drop>(mut terms: I) -> bool
+pub(crate) fn are_in_range<I: Iterator<Item = Term> + Drop>(mut terms: I) -> bool
     requires can { I.can_next terms }
     requires ends { IsFinite (I.remaining terms) }
     ensures { (ts : List Term) → AlwaysYields I.next_gives (λ t. t) terms ts → result ≡ terms_in_range ts }
@@ -79,7 +79,7 @@ pub fn are_in_range<I: Iterator<Item = Term> + Drop>(mut terms: I) -> bool
 }
 
 /// Whether each term names one of so many columns.
-pub fn refer<I: Iterator<Item = Term> + Drop>(columns: usize, mut terms: I) -> bool
+pub(crate) fn refer<I: Iterator<Item = Term> + Drop>(columns: usize, mut terms: I) -> bool
     requires can { I.can_next terms }
     requires ends { IsFinite (I.remaining terms) }
     ensures { (ts : List Term) → AlwaysYields I.next_gives (λ t. t) terms ts → result ≡ terms_refer columns ts }
@@ -88,7 +88,7 @@ pub fn refer<I: Iterator<Item = Term> + Drop>(columns: usize, mut terms: I) -> b
 }
 
 /// Whether the columns rise strictly and no coefficient is nought.
-pub fn rise<I: Iterator<Item = Term> + Drop>(terms: I) -> bool
+pub(crate) fn rise<I: Iterator<Item = Term> + Drop>(terms: I) -> bool
     requires can { I.can_next terms }
     requires ends { IsFinite (I.remaining terms) }
     ensures { (ts : List Term) → AlwaysYields I.next_gives (λ t. t) terms ts → result ≡ terms_rise 0 ts }
@@ -101,4 +101,25 @@ pub fn rise<I: Iterator<Item = Term> + Drop>(terms: I) -> bool
         least = usize::from(term.column) + 1;
     }
     true
+}
+
+/// Whether the coefficient of each term of a slice is in range.
+pub fn slice_in_range(terms: &[Term]) -> bool
+    ensures { result ≡ terms_in_range terms.now }
+{
+    are_in_range(terms.iter().copied())
+}
+
+/// Whether each term of a slice names one of so many columns.
+pub fn slice_refers(columns: usize, terms: &[Term]) -> bool
+    ensures { result ≡ terms_refer columns terms.now }
+{
+    refer(columns, terms.iter().copied())
+}
+
+/// Whether the columns of a slice of terms rise strictly and no coefficient is nought.
+pub fn slice_rises(terms: &[Term]) -> bool
+    ensures { result ≡ terms_rise 0 terms.now }
+{
+    rise(terms.iter().copied())
 }

@@ -13,7 +13,7 @@ pub struct ListedBook {
     pub(crate) book: StoredBook,
 }
 
-// Kept: there is one trait with the five questions, and an impl that a macro writes is refused; so a book around another hands each question on.
+// Kept: there is one trait with the five questions, and an impl that a macro writes is refused; so a book around another asks it each question.
 impl Book for ListedBook {
     ghost meaning = { listed_lists };
 

@@ -16,6 +16,7 @@ const COLUMN_SIZE: u8 = 13;
 
 /// A buffer that is written up to a place.
 #[derive(Drop)]
+// Kept: the contract of a writing says where it began and what stays behind it, which a slice that shrinks with each write would not show.
 pub(crate) struct Writer<'a> {
     pub(crate) out: &'a mut [u8],
     pub(crate) at: usize,

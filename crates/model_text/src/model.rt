@@ -51,6 +51,7 @@ impl Model<'_> {
         term: Term,
         f: &mut fmt::Formatter<W>,
     ) -> fmt::Result {
+        // Kept: four texts by two facts; a closure or a type for the sign of a first term would say no more.
         let size = term.coefficient.unsigned_abs();
         let sign = match (first, term.coefficient < 0) {
             (true, true) => "-",
@@ -59,7 +60,7 @@ impl Model<'_> {
             (false, false) => " + ",
         };
         write!(f, "{sign}{size} ")?;
-        self.show_name(term.column as usize, f)
+        self.show_name(usize::from(term.column), f)
     }
 
     /// Shows a row between the sides that it has; a row of no terms is nought.

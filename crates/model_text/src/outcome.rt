@@ -11,7 +11,6 @@ use clause_book::book::ClauseBook;
 use std::alloc::{AllocError, Global};
 
 /// What becomes of an input.
-// Kept: it has the shape of the outcome of case_text; one generic outcome would be of another crate where it is printed, so that `Display` could not be written for it there.
 #[derive(Drop)]
 pub enum Outcome<'a> {
     /// It is longer than a program takes.
@@ -48,7 +47,7 @@ pub fn outcome_of<'a>(heap: Global, input: &'a [u8]) -> Result<Outcome<'a>, Allo
     match case_of(heap, input) {
         Ok(case) => Ok(Outcome::Case(case)),
         Err(BookError::Fault(fault)) => Ok(Outcome::CaseRefused(fault)),
-        // Kept: `BookError::Memory` holds no `AllocError` to hand on; with one, the clauses `e ≡ Memory` of its public callers would change.
+        // Kept: `BookError::Memory` holds no `AllocError` that could be returned; with one, each clause `e ≡ Memory` would name it, and be no plainer.
         Err(BookError::Memory) => Err(AllocError),
     }
 }

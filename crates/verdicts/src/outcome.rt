@@ -12,7 +12,7 @@ use inputs::part::case_length;
 use std::alloc::{AllocError, Global};
 
 /// Certificates and the answers to them.
-// Kept: the calls are lent to the run, whose answers stand in their order; an answer that held its call would owe a further clause that it is the one that was made.
+// Kept: the calls and the answers to them are joined by `zip` where they are shown; an answer that held its call would be no plainer, since its contract would have to say that the call is the one that was made.
 #[derive(Drop)]
 pub struct Judgement<'a> {
     pub calls: Vec<Call<'a>>,
@@ -20,7 +20,6 @@ pub struct Judgement<'a> {
 }
 
 /// What becomes of an input.
-// Kept: it has the shape of the outcomes of case_text and model_text; one generic outcome would be of another crate where it is printed, so that `Display` could not be written for it there.
 #[derive(Drop)]
 pub enum Outcome<'a> {
     /// It is longer than a program takes.
@@ -55,7 +54,7 @@ pub fn outcome_of<'a>(heap: Global, input: &'a [u8]) -> Result<Outcome<'a>, Allo
     match ClauseBook::open(heap, case) {
         Ok(book) => Ok(Outcome::Judged(judge(heap, &book, certificates)?)),
         Err(BookError::Fault(fault)) => Ok(Outcome::CaseRefused(fault)),
-        // Kept: `BookError::Memory` holds no `AllocError` to hand on; with one, the clauses `e ≡ Memory` of its public callers would change.
+        // Kept: `BookError::Memory` holds no `AllocError` that could be returned; with one, each clause `e ≡ Memory` would name it, and be no plainer.
         Err(BookError::Memory) => Err(AllocError),
     }
 }

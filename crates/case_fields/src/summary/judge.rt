@@ -34,14 +34,14 @@ impl Summary {
     fn has_node(&self, node: u16) -> bool
         ensures { result ≡ nat_lt node self.now.nodes }
     {
-        (node as usize) < self.nodes
+        usize::from(node) < self.nodes
     }
 
     /// Whether an energy offer has this number and no regulation offer names it yet.
     fn is_free(&self, offer: u16) -> bool
         ensures { result ≡ both (nat_lt offer (vec_len self.now.regulated)) (not (slice_index_or self.now.regulated.items offer false)) }
     {
-        self.regulated.get(offer as usize) == Some(&false)
+        self.regulated.get(usize::from(offer)) == Some(&false)
     }
 
     /// Whether what the record refers to stands among the records, and may be referred to.

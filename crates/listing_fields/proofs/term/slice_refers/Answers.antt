@@ -1,0 +1,6 @@
+use Rattle.std.proofs.lemmas.Iterator.{YieldsList-from_slice}
+use Rattle.std.proofs.lemmas.Iterator.Consumers.{YieldsList-from_copied}
+use Rattle.listing_fields.proofs.term.slice_refers.Goals as goal
+
+pub returns : goal.returns
+returns c = c.refer.ensures c.args.terms.now (YieldsList-from_copied (YieldsList-from_slice c.args.terms.now (cc))).runs
