@@ -1,6 +1,7 @@
 -- One turn of each pass over the rows, the columns and the terms: what is left begins with the entry of the turn.
-use Rattle.std.proofs.Common.{◌≡◌, ℕ, zero, suc, ◌+◌, ◌<◌, Bool, true, false, cond, ltb, List, [], ◌∷◌, map, length, get_or, drop, set, ℤ, Some, None, Ok, Err, Option, Result, MatchResult, sym, refl, ap, ◌∙◌, add-one}
-use Rattle.std.specs.List.{slice_get}
+use Rattle.std.proofs.Common.{◌≡◌, ℕ, zero, suc, ◌+◌, ◌<◌, Bool, true, false, cond, not, ltb, List, [], ◌∷◌, map, length, get_or, drop, set, ℤ, Some, None, Ok, Err, Option, Result, MatchOption, MatchResult, sym, refl, ap, ◌∙◌, add-one}
+use Rattle.std.specs.List.{slice_get, zip, enumerate_from, find}
+use Rattle.std.specs.Option.{option_map}
 use Rattle.std.specs.Result.{IsErrAnd}
 use Rattle.std.proofs.lemmas.Bool.{and_parts, ltb-true}
 use Rattle.listing_fields.specs.declared.term.Term.{Term}
@@ -86,29 +87,34 @@ row_end b i left tab all inv e = go (drop i b.rows) ∙ sym (ap (λ q. rows_take
 
 -- ---- a check of each row and its multiplier
 
-module _ (test : Row → ℤ → Bool) (i : ℕ) (r : Row) (y : ℤ) (rs rows : List Row) (ys left : List ℤ) (all : Result (Unit {0}) (ℕ × ℕ)) (inv : first_refused test i rows left ≡ all) (here : rows ≡ r ∷ rs) (front : left ≡ y ∷ ys) where
-  refused_here : cond (test r y) (first_refused test (suc i) rs ys) (Err (i, r.code)) ≡ all
-  refused_here = sym (ap (λ q. first_refused test i q (y ∷ ys)) here) ∙ sym (ap (first_refused test i rows) front) ∙ inv
+-- the test refuses a row and its multiplier, behind their number
+abbrev pub refuses : (Row → ℤ → Bool) → ℕ × (Row × ℤ) → Bool
+refuses test p = not (test p.1.0 p.1.1)
 
-  pub taken_goes : (n : ℕ) → n ≡ i + 1 → test r y ≡ true → first_refused test n rs ys ≡ all
-  taken_goes n next e =
-      ap (λ m. first_refused test m rs ys) (next ∙ add-one i)
-      ∙ sym (ap (λ t. cond t (first_refused test (suc i) rs ys) (Err (i, r.code))) e)
-      ∙ refused_here
+abbrev as_refusal : Option (ℕ × (Row × ℤ)) → Result (Unit {0}) (ℕ × ℕ)
+as_refusal None = Ok tt
+as_refusal (Some p) = Err (p.0, p.1.0.code)
 
-  pub taken_stops : (j : ℕ) → j ≡ i → test r y ≡ false → Err (j, r.code) ≡ all
-  taken_stops j at e =
-      ap (λ m. Err (m, r.code)) at ∙ sym (ap (λ t. cond t (first_refused test (suc i) rs ys) (Err (i, r.code))) e) ∙ refused_here
-
-pub taken_end : (test : Row → ℤ → Bool) (i : ℕ) (rows : List Row) (left : List ℤ) (all : Result (Unit {0}) (ℕ × ℕ)) → first_refused test i rows left ≡ all → (rows ≡ []) → Ok tt ≡ all
-taken_end test i rows left all inv e = sym (ap (λ q. first_refused test i q left) e) ∙ inv
-
-pub taken_over : (test : Row → ℤ → Bool) (i : ℕ) (rows : List Row) (left : List ℤ) (all : Result (Unit {0}) (ℕ × ℕ)) → first_refused test i rows left ≡ all → (left ≡ []) → Ok tt ≡ all
-taken_over test i rows left all inv e = go rows ∙ sym (ap (first_refused test i rows) e) ∙ inv
+refused_from : (test : Row → ℤ → Bool) (k : ℕ) (rs : List Row) (ys : List ℤ) → first_refused test k rs ys ≡ as_refusal (find (refuses test) (enumerate_from k (zip rs ys)))
+refused_from test k [] ys = refl
+refused_from test k (r ∷ rs) [] = refl
+refused_from test k (r ∷ rs) (y ∷ ys) =
+    ap (λ o. cond (test r y) o (Err (k, r.code)))
+    (refused_from test (suc k) rs ys ∙ ap (λ n. as_refusal (find (refuses test) (enumerate_from n (zip rs ys)))) (sym (add-one k)))
+    ∙ by (test r y) (find (refuses test) (enumerate_from (k + 1) (zip rs ys)))
   where
-    go : (rs : List Row) → Ok tt ≡ first_refused test i rs []
-    go [] = refl
-    go (r ∷ rs) = refl
+    by : (t : Bool) (o : Option (ℕ × (Row × ℤ))) → cond t (as_refusal o) (Err (k, r.code)) ≡ as_refusal (cond (not t) (Some (k, (r, y))) o)
+    by true o = refl
+    by false o = refl
+
+-- what the closure that is asked for the row tells
+pub first_found : (test : Row → ℤ → Bool) (rs : List Row) (ys : List ℤ) (o : Option (ℕ × (Row × ℤ))) (r : Result (Unit {0}) (ℕ × ℕ)) (Tells : ℕ × (Row × ℤ) → Type 0) → option_map (λ p. (p.0, (p.1.0, p.1.1))) o ≡ find (refuses test) (enumerate_from 0 (zip rs ys))
+    → ((p : ℕ × (Row × ℤ)) → Tells p → r ≡ Err (p.0, p.1.0.code)) → MatchOption o (r ≡ Ok tt) Tells → r ≡ first_refused test 0 rs ys
+first_found test rs ys o r Tells found err is = by o is ∙ ap as_refusal found ∙ sym (refused_from test 0 rs ys)
+  where
+    by : (p : Option (ℕ × (Row × ℤ))) → MatchOption p (r ≡ Ok tt) Tells → r ≡ as_refusal (option_map (λ q. (q.0, (q.1.0, q.1.1))) p)
+    by None e = e
+    by (Some p) e = err p e
 
 -- the fault of the row that is refused
 abbrev as_fault : (ℕ → ℕ → DocketFault) → Result (Unit {0}) (ℕ × ℕ) → Result (Unit {0}) DocketFault
