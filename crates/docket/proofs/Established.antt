@@ -54,7 +54,7 @@ module _ (b : Lists) (h : List Laid) (c : Laid) where
   schedule_more None new a none = begins (AcceptedSchedule b) _ _ (upward b) h c new.label new.figure a none
   schedule_more (Some old) new a f = by (lt_z old.figure new.figure) refl
     where
-      by : (t : Bool) → lt_z old.figure new.figure ≡ t → Best b (h ++ c ∷ []) (label_in (cond t (Some new) (Some old))) (figure_in (cond t (Some new) (Some old)))
+      by : (t : Bool) → lt_z old.figure new.figure ≡ t → Best b (h ++ c ∷ []) (label_in (Some (cond t new old))) (figure_in (Some (cond t new old)))
       by true e = leads (AcceptedSchedule b) _ _ (upward b) h c new.label new.figure a old.label old.figure (omega (arith, ints)) f
       by false e = follows (AcceptedSchedule b) _ _ (upward b) h c new.label new.figure a old.label old.figure (omega (arith, ints)) f
 
@@ -63,7 +63,7 @@ module _ (b : Lists) (h : List Laid) (c : Laid) where
   set_more None new a none = begins (AcceptedSet b) _ _ (downward b) h c new.label new.figure a none
   set_more (Some old) new a f = by (lt_z new.figure old.figure) refl
     where
-      by : (t : Bool) → lt_z new.figure old.figure ≡ t → Lowest b (h ++ c ∷ []) (label_in (cond t (Some new) (Some old))) (figure_in (cond t (Some new) (Some old)))
+      by : (t : Bool) → lt_z new.figure old.figure ≡ t → Lowest b (h ++ c ∷ []) (label_in (Some (cond t new old))) (figure_in (Some (cond t new old)))
       by true e = leads (AcceptedSet b) _ _ (downward b) h c new.label new.figure a old.label old.figure (omega (arith, ints)) f
       by false e = follows (AcceptedSet b) _ _ (downward b) h c new.label new.figure a old.label old.figure (omega (arith, ints)) f
 

@@ -28,7 +28,7 @@ greater_fits : (o : Option Labelled) (new : Labelled) → best_fits o ≡ true �
 greater_fits None new p q = q
 greater_fits (Some old) new p q = by (lt_z old.figure new.figure)
   where
-    by : (t : Bool) → best_fits (cond t (Some new) (Some old)) ≡ true
+    by : (t : Bool) → best_fits (Some (cond t new old)) ≡ true
     by true = q
     by false = p
 
@@ -36,15 +36,15 @@ lower_fits : (o : Option Labelled) (new : Labelled) → bound_fits o ≡ true �
 lower_fits None new p q = q
 lower_fits (Some old) new p q = by (lt_z new.figure old.figure)
   where
-    by : (t : Bool) → bound_fits (cond t (Some new) (Some old)) ≡ true
+    by : (t : Bool) → bound_fits (Some (cond t new old)) ≡ true
     by true = q
     by false = p
 
 -- what stands by a closure that tells which figure is better is what stands by the test that it makes
-pub leader_is : (better : ℤ → ℤ → Bool) (Tells : Labelled → Bool → Type 0) (o : Option Labelled) (new : Labelled) (r : Option Labelled) → ((old : Labelled) (t : Bool) → Tells old t → o ≡ Some old → t ≡ better new.figure old.figure)
-    → MatchOption o (r ≡ Some new) (λ old. (t : Bool) × Tells old t × (r ≡ cond t (Some new) (Some old))) → r ≡ leader better o new
+pub leader_is : (better : ℤ → ℤ → Bool) (Tells : Labelled → Bool → Type 0) (o : Option Labelled) (new : Labelled) (r : Labelled) → ((old : Labelled) (t : Bool) → Tells old t → o ≡ Some old → t ≡ better new.figure old.figure)
+    → MatchOption o (r ≡ new) (λ old. (t : Bool) × Tells old t × (r ≡ cond t new old)) → r ≡ leader better o new
 leader_is better Tells None new r same e = e
-leader_is better Tells (Some old) new r same e = e.2 ∙ ap (λ t. cond t (Some new) (Some old)) (same old e.0 e.1 refl)
+leader_is better Tells (Some old) new r same e = e.2 ∙ ap (λ t. cond t new old) (same old e.0 e.1 refl)
 
 -- what stands once a certificate is accepted: p is the best and q the bound
 abbrev pub Next : CertificateKind → Option Labelled → Option Labelled → Labelled → Option Labelled → Option Labelled → Type 0

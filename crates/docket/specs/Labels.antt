@@ -25,17 +25,17 @@ standing_by best bound =
     }
 
 -- what stands after a new figure: the new one if it is the first, or passes the test against what stood
-abbrev pub leader : (ℤ → ℤ → Bool) → Option Labelled → Labelled → Option Labelled
-leader better None new = Some new
-leader better (Some old) new = cond (better new.figure old.figure) (Some new) (Some old)
+abbrev pub leader : (ℤ → ℤ → Bool) → Option Labelled → Labelled → Labelled
+leader better None new = new
+leader better (Some old) new = cond (better new.figure old.figure) new old
 
 -- the greater of what stood and a new figure; what stood stays if they are equal
 abbrev pub greater : Option Labelled → Labelled → Option Labelled
-greater = leader (λ new old. int_lt old new)
+greater stood new = Some (leader (λ v w. int_lt w v) stood new)
 
 -- the lower of what stood and a new figure; what stood stays if they are equal
 abbrev pub lower : Option Labelled → Labelled → Option Labelled
-lower = leader int_lt
+lower stood new = Some (leader int_lt stood new)
 
 -- a best figure, if there is one, is within ±10^13, and a bound within ±2^60
 abbrev pub best_fits : Option Labelled → Bool

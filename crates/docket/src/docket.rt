@@ -75,10 +75,10 @@ impl<'a, B: Book> Docket<'a, B> {
             Ok(new) => {
                 match kind {
                     CertificateKind::Schedule => {
-                        self.best = leader(self.best, new, |new, old| new > old);
+                        self.best = Some(leader(self.best, new, |new, old| new > old));
                     }
                     CertificateKind::Multipliers => {
-                        self.bound = leader(self.bound, new, |new, old| new < old);
+                        self.bound = Some(leader(self.bound, new, |new, old| new < old));
                     }
                 }
                 Verdict::Accepted { figure: new.figure }

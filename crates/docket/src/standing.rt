@@ -30,15 +30,15 @@ pub(crate) fn leader<F: FnOnce(i64, i64) -> bool>(
     stood: Option<Labelled>,
     new: Labelled,
     is_better: F,
-) -> Option<Labelled>
+) -> Labelled
     requires { F.IsAlwaysCallable is_better }
     ensures { MatchOption stood
-        (result ≡ Some new)
-        (λ old. (better : _) × F.post is_better new.figure old.figure better × (result ≡ (if better then Some new else Some old))) }
+        (result ≡ new)
+        (λ old. (better : _) × F.post is_better new.figure old.figure better × (result ≡ (if better then new else old))) }
 {
     match stood {
-        Some(old) if !is_better(new.figure, old.figure) => Some(old),
-        _ => Some(new),
+        Some(old) if !is_better(new.figure, old.figure) => old,
+        _ => new,
     }
 }
 

@@ -1,6 +1,7 @@
 -- One turn of each pass over the rows, the columns and the terms: what is left begins with the entry of the turn.
-use Rattle.std.proofs.Common.{◌≡◌, ℕ, zero, suc, ◌+◌, ◌<◌, Bool, true, false, cond, ltb, List, [], ◌∷◌, map, length, get_or, drop, set, ℤ, Some, None, Ok, Err, Option, Result, MatchResult, sym, refl, ap, ◌∙◌, add-one}
-use Rattle.std.specs.List.{slice_get}
+use Rattle.std.proofs.Common.{◌≡◌, ℕ, zero, suc, ◌+◌, ◌<◌, ◌≤◌, Bool, true, false, cond, not, ltb, List, [], ◌∷◌, map, length, get_or, drop, set, ℤ, Some, None, Ok, Err, Option, Result, MatchOption, MatchResult, sym, refl, ap, ◌∙◌, add-one, arith}
+use Rattle.std.specs.List.{slice_get, zip, enumerate_from, find}
+use Rattle.std.specs.Option.{option_map}
 use Rattle.std.specs.Result.{IsErrAnd}
 use Rattle.std.proofs.lemmas.Bool.{and_parts, ltb-true}
 use Rattle.listing_fields.specs.declared.term.Term.{Term}
@@ -86,29 +87,34 @@ row_end b i left tab all inv e = go (drop i b.rows) ∙ sym (ap (λ q. rows_take
 
 -- ---- a check of each row and its multiplier
 
-module _ (test : Row → ℤ → Bool) (i : ℕ) (r : Row) (y : ℤ) (rs rows : List Row) (ys left : List ℤ) (all : Result (Unit {0}) (ℕ × ℕ)) (inv : first_refused test i rows left ≡ all) (here : rows ≡ r ∷ rs) (front : left ≡ y ∷ ys) where
-  refused_here : cond (test r y) (first_refused test (suc i) rs ys) (Err (i, r.code)) ≡ all
-  refused_here = sym (ap (λ q. first_refused test i q (y ∷ ys)) here) ∙ sym (ap (first_refused test i rows) front) ∙ inv
+-- the test refuses a row and its multiplier, behind their number
+abbrev pub refuses : (Row → ℤ → Bool) → ℕ × (Row × ℤ) → Bool
+refuses test p = not (test p.1.0 p.1.1)
 
-  pub taken_goes : (n : ℕ) → n ≡ i + 1 → test r y ≡ true → first_refused test n rs ys ≡ all
-  taken_goes n next e =
-      ap (λ m. first_refused test m rs ys) (next ∙ add-one i)
-      ∙ sym (ap (λ t. cond t (first_refused test (suc i) rs ys) (Err (i, r.code))) e)
-      ∙ refused_here
+abbrev as_refusal : Option (ℕ × (Row × ℤ)) → Result (Unit {0}) (ℕ × ℕ)
+as_refusal None = Ok tt
+as_refusal (Some p) = Err (p.0, p.1.0.code)
 
-  pub taken_stops : (j : ℕ) → j ≡ i → test r y ≡ false → Err (j, r.code) ≡ all
-  taken_stops j at e =
-      ap (λ m. Err (m, r.code)) at ∙ sym (ap (λ t. cond t (first_refused test (suc i) rs ys) (Err (i, r.code))) e) ∙ refused_here
-
-pub taken_end : (test : Row → ℤ → Bool) (i : ℕ) (rows : List Row) (left : List ℤ) (all : Result (Unit {0}) (ℕ × ℕ)) → first_refused test i rows left ≡ all → (rows ≡ []) → Ok tt ≡ all
-taken_end test i rows left all inv e = sym (ap (λ q. first_refused test i q left) e) ∙ inv
-
-pub taken_over : (test : Row → ℤ → Bool) (i : ℕ) (rows : List Row) (left : List ℤ) (all : Result (Unit {0}) (ℕ × ℕ)) → first_refused test i rows left ≡ all → (left ≡ []) → Ok tt ≡ all
-taken_over test i rows left all inv e = go rows ∙ sym (ap (first_refused test i rows) e) ∙ inv
+refused_from : (test : Row → ℤ → Bool) (k : ℕ) (rs : List Row) (ys : List ℤ) → first_refused test k rs ys ≡ as_refusal (find (refuses test) (enumerate_from k (zip rs ys)))
+refused_from test k [] ys = refl
+refused_from test k (r ∷ rs) [] = refl
+refused_from test k (r ∷ rs) (y ∷ ys) =
+    ap (λ o. cond (test r y) o (Err (k, r.code)))
+    (refused_from test (suc k) rs ys ∙ ap (λ n. as_refusal (find (refuses test) (enumerate_from n (zip rs ys)))) (sym (add-one k)))
+    ∙ by (test r y) (find (refuses test) (enumerate_from (k + 1) (zip rs ys)))
   where
-    go : (rs : List Row) → Ok tt ≡ first_refused test i rs []
-    go [] = refl
-    go (r ∷ rs) = refl
+    by : (t : Bool) (o : Option (ℕ × (Row × ℤ))) → cond t (as_refusal o) (Err (k, r.code)) ≡ as_refusal (cond (not t) (Some (k, (r, y))) o)
+    by true o = refl
+    by false o = refl
+
+-- what the closure that is asked for the row tells
+pub first_found : (test : Row → ℤ → Bool) (rs : List Row) (ys : List ℤ) (o : Option (ℕ × (Row × ℤ))) (r : Result (Unit {0}) (ℕ × ℕ)) (Tells : ℕ × (Row × ℤ) → Type 0) → option_map (λ p. (p.0, (p.1.0, p.1.1))) o ≡ find (refuses test) (enumerate_from 0 (zip rs ys))
+    → ((p : ℕ × (Row × ℤ)) → Tells p → r ≡ Err (p.0, p.1.0.code)) → MatchOption o (r ≡ Ok tt) Tells → r ≡ first_refused test 0 rs ys
+first_found test rs ys o r Tells found err is = by o is ∙ ap as_refusal found ∙ sym (refused_from test 0 rs ys)
+  where
+    by : (p : Option (ℕ × (Row × ℤ))) → MatchOption p (r ≡ Ok tt) Tells → r ≡ as_refusal (option_map (λ q. (q.0, (q.1.0, q.1.1))) p)
+    by None e = e
+    by (Some p) e = err p e
 
 -- the fault of the row that is refused
 abbrev as_fault : (ℕ → ℕ → DocketFault) → Result (Unit {0}) (ℕ × ℕ) → Result (Unit {0}) DocketFault
@@ -194,18 +200,50 @@ total_over i t rows left all inv e = go rows ∙ sym (ap (λ q. heads_total i ro
 
 -- ---- the columns' total
 
-module _ (j : ℕ) (c : Column) (cs left : List Column) (tab : Table) (t : ℤ) (all : Answer) (inv : table_total j left tab t ≡ all) (front : left ≡ c ∷ cs) where
-  turn : all ≡ then (column_total j c (get_or tab j None) t) (λ s. table_total (suc j) cs tab s)
-  turn = sym inv ∙ ap (λ q. table_total j q tab t) front
+-- the same from the columns and their reduced costs, one beside the other
+abbrev pub costs_total : ℕ → List Column → Table → ℤ → Answer
+costs_total j [] ks t = done t
+costs_total j (c ∷ cs) [] t = done t
+costs_total j (c ∷ cs) (k ∷ ks) t = then (column_total j c k t) (λ s. costs_total (suc j) cs ks s)
 
-  pub column_goes : (n : ℕ) → n ≡ j + 1 → (k : ℕ) (s : ℤ) → k ≡ j → done s ≡ column_total k c (get_or tab k None) t → table_total n cs tab s ≡ all
-  column_goes n next k s at ok =
-      ap (λ m. table_total m cs tab s) (next ∙ add-one j)
-      ∙ sym (turn ∙ ap (λ q. then q (λ s. table_total (suc j) cs tab s)) (sym (ok ∙ ap (λ m. column_total m c (get_or tab m None) t) at)))
+module _ (tab : Table) where
+  costs_from : (j : ℕ) (cs : List Column) (ks : Table) (t : ℤ) → ks ≡ drop j tab → length cs ≤ length ks → costs_total j cs ks t ≡ table_total j cs tab t
+  costs_from j [] ks t at few = refl
+  costs_from j (c ∷ cs) [] t at few = absurd (omega arith)
+  costs_from j (c ∷ cs) (k ∷ ks) t at few =
+      let front = drop_parts tab j k ks (sym at) in
+      ap (λ o. then (column_total j c o t) (λ s. costs_total (suc j) cs ks s)) front.0
+      ∙ then_same (column_total j c (get_or tab j None) t) _ _ (λ s. costs_from (suc j) cs ks s (sym front.1) (omega (arith, few)))
+    where
+      drop_parts : (xs : Table) (n : ℕ) (x : Option ℤ) (ys : Table) → drop n xs ≡ x ∷ ys → (x ≡ get_or xs n None) × (drop (suc n) xs ≡ ys)
+      drop_parts [] zero x ys e = cc
+      drop_parts [] (suc n) x ys e = cc
+      drop_parts (z ∷ xs) zero x ys e = (cc, cc)
+      drop_parts (z ∷ xs) (suc n) x ys e = drop_parts xs n x ys e
 
-  pub column_stops : (k : ℕ) (f : DocketFault) → k ≡ j → refused f ≡ column_total k c (get_or tab k None) t → refused f ≡ all
-  column_stops k f at err =
-      sym (turn ∙ ap (λ q. then q (λ s. table_total (suc j) cs tab s)) (sym (err ∙ ap (λ m. column_total m c (get_or tab m None) t) at)))
+  pub costs_are : (cs : List Column) (t : ℤ) → length cs ≤ length tab → costs_total 0 cs tab t ≡ table_total 0 cs tab t
+  costs_are cs t few = costs_from 0 cs tab t refl few
 
-pub column_end : (j : ℕ) (left : List Column) (tab : Table) (t : ℤ) (all : Answer) → table_total j left tab t ≡ all → left ≡ [] → done t ≡ all
-column_end j left tab t all inv e = sym (ap (λ q. table_total j q tab t) e) ∙ inv
+module _ (j : ℕ) (c : Column) (k : Option ℤ) (t : ℤ) (cs columns : List Column) (ks left : Table) (all : Answer) (inv : costs_total j columns left t ≡ all) (here : columns ≡ c ∷ cs) (front : left ≡ k ∷ ks) where
+  cost_here : all ≡ then (column_total j c k t) (λ s. costs_total (suc j) cs ks s)
+  cost_here = sym (sym (ap (λ q. costs_total j q (k ∷ ks) t) here) ∙ sym (ap (λ q. costs_total j columns q t) front) ∙ inv)
+
+  pub column_goes : (n : ℕ) → n ≡ j + 1 → (i : ℕ) (s : ℤ) → i ≡ j → done s ≡ column_total i c k t → costs_total n cs ks s ≡ all
+  column_goes n next i s at ok =
+      ap (λ m. costs_total m cs ks s) (next ∙ add-one j)
+      ∙ sym (cost_here ∙ ap (λ q. then q (λ s. costs_total (suc j) cs ks s)) (sym (ok ∙ ap (λ m. column_total m c k t) at)))
+
+  pub column_stops : (i : ℕ) (f : DocketFault) → i ≡ j → refused f ≡ column_total i c k t → refused f ≡ all
+  column_stops i f at err =
+      sym (cost_here ∙ ap (λ q. then q (λ s. costs_total (suc j) cs ks s)) (sym (err ∙ ap (λ m. column_total m c k t) at)))
+
+pub column_end : (j : ℕ) (t : ℤ) (columns : List Column) (left : Table) (all : Answer) → costs_total j columns left t ≡ all → columns ≡ [] → done t ≡ all
+column_end j t columns left all inv e = sym (ap (λ q. costs_total j q left t) e) ∙ inv
+
+pub column_over : (j : ℕ) (t : ℤ) (columns : List Column) (left : Table) (all : Answer) → costs_total j columns left t ≡ all → length left ≡ 0 → done t ≡ all
+column_over j t columns [] all inv e = go columns ∙ inv
+  where
+    go : (cs : List Column) → done t ≡ costs_total j cs [] t
+    go [] = refl
+    go (c ∷ cs) = refl
+column_over j t columns (k ∷ ks) all inv e = absurd (omega arith)

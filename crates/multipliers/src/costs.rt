@@ -55,6 +55,7 @@ impl Costs {
         ensures starts { self.new ≡ started 0 (B.Book.meaning book.now).columns self.old }
         ensures long { length self.old ≡ 4000 }
     {
+        // Kept: behind `iter_mut().zip(..)` nothing is known of what the loop wrote, so that `starts` and the table's length stay open.
         for (j, column) in Columns::of(book).enumerate() {
             self.entries[j] = start_cost(column);
         }
@@ -101,8 +102,8 @@ impl Costs {
         ensures { result ≡ table_total 0 (B.Book.meaning book.now).columns self.now total }
     {
         let mut sum = total;
-        for (j, column) in Columns::of(book).enumerate() {
-            sum = add_column(j, column, self.entries[j], sum)?;
+        for (j, (column, cost)) in Columns::of(book).zip(self.entries.iter()).enumerate() {
+            sum = add_column(j, column, *cost, sum)?;
         }
         Ok(sum)
     }

@@ -26,12 +26,11 @@ fn check_rows<B: Book, T: Fn(Row, i64) -> bool>(
         → ((r : TheRow) (y : ℤ) (t : Bool) → FitsSigned w64 y → T.post takes r y t → t ≡ test r y)
         → result ≡ first_refused test 0 (heads_of (B.Book.meaning book.now)) (multipliers values.entry.bytes.now) }
 {
-    for (i, (row, y)) in Rows::of(book).zip(values.iter()).enumerate() {
-        if !takes(row, y.into()) {
-            return Err((i, row.code));
-        }
-    }
-    Ok(())
+    Rows::of(book)
+        .zip(values.iter())
+        .enumerate()
+        .find(|(_, (row, y))| !takes(*row, (*y).into()))
+        .map_or(Ok(()), |(i, (row, _))| Err((i, row.code)))
 }
 
 /// The first row whose multiplier lies beyond ±10^12 is the fault.

@@ -41,17 +41,15 @@ first_broken_at k (c ∷ cs) (x ∷ xs) =
     ∙ ap (cond (beyond (c, x)) (Some (ColumnBroken k))) (first_broken_at (suc k) cs xs ∙ ap (λ n. option_map ColumnBroken (position_from beyond n (zip cs xs))) (sym (add-one k)))
     ∙ sym (map_cond (beyond (c, x)) (Some k) (position_from beyond (k + 1) (zip cs xs)))
 
--- what the closure that is asked for the fault tells
-pub columns_checked : (cs : List Column) (xs : List ℤ) (o : Option ℕ) (r : Result (Unit {0}) DocketFault) (Tells : ℕ → Type 0) → o ≡ cond (ltb (position_or_len beyond (zip cs xs)) (length (zip cs xs))) (Some (position_or_len beyond (zip cs xs))) None
-    → ((j : ℕ) → Tells j → r ≡ Err (ColumnBroken j)) → MatchOption o (r ≡ Ok tt) Tells → r ≡ passed (first_broken_column 0 cs xs)
-columns_checked cs xs o r Tells at err is =
-    by o is
-    ∙ ap (λ p. passed (option_map ColumnBroken p)) (at ∙ position_from-zero beyond (zip cs xs))
-    ∙ ap passed (sym (first_broken_at 0 cs xs))
-  where
-    by : (p : Option ℕ) → MatchOption p (r ≡ Ok tt) Tells → r ≡ passed (option_map ColumnBroken p)
-    by None e = e
-    by (Some j) e = err j e
+module _ (cs : List Column) (xs : List ℤ) (o : Option ℕ) (at : o ≡ cond (ltb (position_or_len beyond (zip cs xs)) (length (zip cs xs))) (Some (position_or_len beyond (zip cs xs))) None) where
+  found_at : first_broken_column 0 cs xs ≡ option_map ColumnBroken o
+  found_at = first_broken_at 0 cs xs ∙ ap (λ p. option_map ColumnBroken p) (sym (at ∙ position_from-zero beyond (zip cs xs)))
+
+  pub columns_pass : o ≡ None → first_broken_column 0 cs xs ≡ None
+  columns_pass e = found_at ∙ ap (λ p. option_map ColumnBroken p) e
+
+  pub column_broken : (j : ℕ) → o ≡ Some j → first_broken_column 0 cs xs ≡ Some (ColumnBroken j)
+  column_broken j e = found_at ∙ ap (λ p. option_map ColumnBroken p) e
 
 -- ---- rows, each with its number
 

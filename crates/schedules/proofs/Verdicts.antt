@@ -203,12 +203,12 @@ module _ (b : Lists) (vs : List ℕ) (count : right_count 4 (length b.columns) v
       cond-true (right_count 4 (length b.columns) vs) (judged_schedule b (quantities vs)) (Err ValueCount) count
       ∙ judged_is b (quantities vs)
 
-  pub columns_refuse : (f : DocketFault) → Err f ≡ passed (first_broken_column 0 b.columns (quantities vs)) → Err f ≡ schedule_answer b vs
-  columns_refuse f e = sym (checks ∙ ap (λ o. unless o (row_checks b (quantities vs))) (fault_is _ f e))
+  pub columns_refuse : (f : DocketFault) → first_broken_column 0 b.columns (quantities vs) ≡ Some f → Err f ≡ schedule_answer b vs
+  columns_refuse f e = sym (checks ∙ ap (λ o. unless o (row_checks b (quantities vs))) e)
 
-  module _ (u : Unit {0}) (limits : Ok u ≡ passed (first_broken_column 0 b.columns (quantities vs))) where
+  module _ (limits : first_broken_column 0 b.columns (quantities vs) ≡ None) where
     from_rows : schedule_answer b vs ≡ row_checks b (quantities vs)
-    from_rows = checks ∙ ap (λ o. unless o (row_checks b (quantities vs))) (none_is _ u limits)
+    from_rows = checks ∙ ap (λ o. unless o (row_checks b (quantities vs))) limits
 
     pub rows_refuse : (f : DocketFault) → Err f ≡ passed (first_broken_row 0 b.rows (quantities vs)) → Err f ≡ schedule_answer b vs
     rows_refuse f e = sym (from_rows ∙ ap (λ o. unless o (last_check (benefit b.columns (quantities vs)))) (fault_is _ f e))

@@ -3,9 +3,8 @@ ghost use Rattle.std.specs.Prelude.{◌≡◌, true, length, ℤ, Ok, MatchResul
 ghost use Rattle.certificates.specs.Values.{quantities};
 ghost use Rattle.certificates.specs.Checks.{right_count, schedule_answer, SchedulePasses};
 
-use crate::activity::check_rows;
 use crate::limit::check_columns;
-use crate::price::{net_benefit, reached};
+use crate::price::reached;
 use books::book::Book;
 use certificates::fault::DocketFault;
 use certificates::value::{Quantities, Quantity, are_counted};
@@ -22,8 +21,7 @@ pub fn judge_schedule<B: Book>(book: &B, values: &[u8]) -> Result<i64, DocketFau
     if !are_counted::<Quantity>(values, book.column_count()) {
         return Err(DocketFault::ValueCount);
     }
-    let values = Quantities::new(values);
-    check_columns(book, values)?;
-    check_rows(book, values)?;
-    reached(net_benefit(book, values))
+    let schedule = check_columns(book, Quantities::new(values))?;
+    schedule.check_rows()?;
+    reached(schedule.net_benefit())
 }

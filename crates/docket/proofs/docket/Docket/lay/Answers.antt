@@ -1,4 +1,4 @@
-use Rattle.std.proofs.Common.{refl, inl, inr, w64, SFits, rules}
+use Rattle.std.proofs.Common.{Some, refl, ap, inl, inr, w64, SFits, rules}
 use Rattle.std.proofs.lemmas.Int.{to_z-of_z}
 use Rattle.docket.proofs.Laying.{leader_is, next_fits, next_lays, refused_lays}
 use Rattle.docket.proofs.docket.Docket.lay.Goals as goal
@@ -8,13 +8,13 @@ pub invariant_of-self : goal.invariant_of-self
 invariant_of-self g c =
     let i = c.self.inside in
     next_fits g.B.Book.meaning i.book.now (g.met.B.Book.kept i.book.now) c.args.field.now c.args.kind c.in-Ok.new c.in-Ok.ensures.told i.best i.bound _ _ c.self.invariant
-    (inl (c.in-Schedule.is, leader_is _ _ i.best c.in-Ok.new _ (λ old t p e. search rules) c.leader-self-inside.ensures, refl))
+    (inl (c.in-Schedule.is, ap Some (leader_is _ _ i.best c.in-Ok.new _ (λ old t p e. search rules) c.leader.ensures), refl))
 
 pub invariant_of-self-in-Multipliers : goal.invariant_of-self-in-Multipliers
 invariant_of-self-in-Multipliers g c =
     let i = c.self.inside in
     next_fits g.B.Book.meaning i.book.now (g.met.B.Book.kept i.book.now) c.args.field.now c.args.kind c.in-Ok.new c.in-Ok.ensures.told i.best i.bound _ _ c.self.invariant
-    (inr (c.in-Multipliers.is, refl, leader_is _ _ i.bound c.in-Ok.new _ (λ old t p e. search rules) c.leader-self-inside-in-Multipliers.ensures))
+    (inr (c.in-Multipliers.is, refl, ap Some (leader_is _ _ i.bound c.in-Ok.new _ (λ old t p e. search rules) c.leader-in-Multipliers.ensures)))
 
 pub returns-after-kind : goal.returns-after-kind
 returns-after-kind g c =
@@ -23,9 +23,9 @@ returns-after-kind g c =
     let lays = next_lays g.B.Book.meaning i.book.now (g.met.B.Book.kept i.book.now) c.args.field.now c.args.kind c.in-Ok.new c.in-Ok.ensures.told i.best i.bound in
     elim c.match-kind.branch [
       | in-Schedule w ↦ lays _ _ _ _ _ (to_z-of_z w64 _ fits) c.self.view_is w.self-is
-          (inl (w.in-Schedule.is, leader_is _ _ i.best c.in-Ok.new _ (λ old t p e. search rules) w.leader-self-inside.ensures, refl))
+          (inl (w.in-Schedule.is, ap Some (leader_is _ _ i.best c.in-Ok.new _ (λ old t p e. search rules) w.leader.ensures), refl))
       | in-Multipliers w ↦ lays _ _ _ _ _ (to_z-of_z w64 _ fits) c.self.view_is w.self-is
-          (inr (w.in-Multipliers.is, refl, leader_is _ _ i.bound c.in-Ok.new _ (λ old t p e. search rules) w.leader-self-inside-in-Multipliers.ensures))
+          (inr (w.in-Multipliers.is, refl, ap Some (leader_is _ _ i.bound c.in-Ok.new _ (λ old t p e. search rules) w.leader-in-Multipliers.ensures)))
     ]
 
 pub returns-in-Err : goal.returns-in-Err
