@@ -6,33 +6,23 @@ use fields::number::Number;
 use fields::sequence::{Element, Sequence};
 use std::marker::Model;
 
-/// The number that a schedule gives a column.
+/// A number of a certificate, as an integer of its width.
 #[derive(Clone, Copy, PartialEq, Eq, Debug)]
-pub struct Quantity(i32);
+pub struct CertificateNumber<N>(N);
 
-impl Model for Quantity {
-    ghost use Rattle.std.specs.Prelude.{ℤ};
+impl<N> Model for CertificateNumber<N> {
+    ghost Value = { N };
 
-    ghost Value = { ℤ };
+    ghost view = { λ f. f.0 };
 
-    ghost view = { λ q. q.0 };
-
-    ghost inverse = { λ z. record { 0 = z } };
+    ghost inverse = { λ n. record { 0 = n } };
 }
+
+/// The number that a schedule gives a column.
+pub type Quantity = CertificateNumber<i32>;
 
 /// The multiplier that a set gives a row.
-#[derive(Clone, Copy, PartialEq, Eq, Debug)]
-pub struct Multiplier(i64);
-
-impl Model for Multiplier {
-    ghost use Rattle.std.specs.Prelude.{ℤ};
-
-    ghost Value = { ℤ };
-
-    ghost view = { λ y. y.0 };
-
-    ghost inverse = { λ z. record { 0 = z } };
-}
+pub type Multiplier = CertificateNumber<i64>;
 
 /// The numbers of a schedule, one a column.
 pub type Quantities<'a> = Sequence<'a, Quantity>;
@@ -40,7 +30,7 @@ pub type Quantities<'a> = Sequence<'a, Quantity>;
 /// The multipliers of a set, one a row.
 pub type Multipliers<'a> = Sequence<'a, Multiplier>;
 
-impl From<Quantity> for i32 {
+impl From<CertificateNumber<i32>> for i32 {
     ghost use Rattle.std.specs.Prelude.{◌≡◌};
 
     ghost from_gives = { λ q n. n ≡ q };
@@ -50,7 +40,7 @@ impl From<Quantity> for i32 {
     }
 }
 
-impl From<Multiplier> for i64 {
+impl From<CertificateNumber<i64>> for i64 {
     ghost use Rattle.std.specs.Prelude.{◌≡◌};
 
     ghost from_gives = { λ y n. n ≡ y };
@@ -60,7 +50,7 @@ impl From<Multiplier> for i64 {
     }
 }
 
-impl Element for Quantity {
+impl Element for CertificateNumber<i32> {
     ghost use Rattle.certificates.specs.Values.{quantities};
     ghost use Rattle.certificates.specs.Held.{quantities_held};
 
@@ -73,13 +63,13 @@ impl Element for Quantity {
     #[tactic(auto, using(crate::proofs::Numbers::quantities_first))]
     fn split(bytes: &[u8]) -> Option<(Quantity, &[u8])> {
         let (number, rest) = i32::split(bytes)?;
-        Some((Quantity(number), rest))
+        Some((CertificateNumber(number), rest))
     }
 
     ghost laws = { quantities_held };
 }
 
-impl Element for Multiplier {
+impl Element for CertificateNumber<i64> {
     ghost use Rattle.certificates.specs.Values.{multipliers};
     ghost use Rattle.certificates.specs.Held.{multipliers_held};
 
@@ -92,7 +82,7 @@ impl Element for Multiplier {
     #[tactic(auto, using(crate::proofs::Numbers::multipliers_first))]
     fn split(bytes: &[u8]) -> Option<(Multiplier, &[u8])> {
         let (number, rest) = i64::split(bytes)?;
-        Some((Multiplier(number), rest))
+        Some((CertificateNumber(number), rest))
     }
 
     ghost laws = { multipliers_held };

@@ -5,30 +5,19 @@ ghost use Rattle.multipliers.specs.Costs.{is_clear};
 
 use crate::costs::Costs;
 use std::alloc::{AllocError, Global};
-use std::marker::Model;
 
 /// A reduced cost for each column, all nought between calls.
 #[derive(Drop)]
 pub struct WorkingTable {
     pub(crate) costs: Costs,
-}
-
-impl Model for WorkingTable {
-    ghost use Rattle.std.specs.Prelude.{◌≡◌, true, List, ℤ, Option};
-    ghost use Rattle.books.specs.Conditions.{every};
-    ghost use Rattle.multipliers.specs.Costs.{is_clear};
-
-    ghost Value = { List (Option ℤ) };
-
-    ghost view = { λ t. t.costs };
-
-    ghost invariant = { λ t. every is_clear t.costs ≡ true };
+    pub ghost long: { length costs ≡ 4000 },
+    pub ghost clear: { every is_clear costs ≡ true },
 }
 
 impl WorkingTable {
     /// A table of noughts, if there is memory for it.
     pub fn new(heap: Global) -> Result<WorkingTable, AllocError>
-        ensures { IfOk result (λ t. (length t ≡ 4000) × (every is_clear t ≡ true)) }
+        ensures { IfOk result (λ t. (length t.costs ≡ 4000) × (every is_clear t.costs ≡ true)) }
     {
         Ok(WorkingTable {
             costs: Costs::new(heap)?,
