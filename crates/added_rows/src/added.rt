@@ -1,5 +1,5 @@
 //! A book with rows of its own, in a table, behind those of the book below.
-ghost use Rattle.std.specs.Prelude.{◌≡◌, ◌+◌, true, map, length, is_ok, if◌then◌else◌, MatchResult};
+ghost use Rattle.std.specs.Prelude.{◌≡◌, ◌+◌, ◌≤◌, true, map, length, is_ok, if◌then◌else◌, MatchResult};
 ghost use Rattle.added_rows.specs.Adding.{Added, row_of, all_fit, answer};
 
 use crate::condition::is_fit;
@@ -17,6 +17,7 @@ pub struct AddedRows<B: Book> {
     columns: usize,
     table: Table,
     ghost judged: { all_fit columns table ≡ true },
+    ghost held: { length table ≤ 32 },
 }
 
 impl<B: Book> AddedRows<B> {

@@ -9,3 +9,4 @@ pub mod Meant
 pub mod Parsed
 pub mod Read
 pub mod Summaries
+pub mod PartTexts

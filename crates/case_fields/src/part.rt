@@ -16,6 +16,11 @@ pub struct Block {
 }
 
 impl fmt::Display for Block {
+    ghost use Rattle.std.specs.Prelude.{Some};
+    ghost use Rattle.case_fields.specs.PartTexts.{block_text};
+
+    ghost output = { λ x. Some (block_text x) };
+
     fn fmt<W: fmt::Write>(&self, f: &mut fmt::Formatter<W>) -> fmt::Result {
         let Block { price, maximum } = *self;
         write!(f, "block of {maximum} kW at {price} cents per MWh")
@@ -32,6 +37,11 @@ pub struct Point {
 }
 
 impl fmt::Display for Point {
+    ghost use Rattle.std.specs.Prelude.{Some};
+    ghost use Rattle.case_fields.specs.PartTexts.{point_text};
+
+    ghost output = { λ x. Some (point_text x) };
+
     fn fmt<W: fmt::Write>(&self, f: &mut fmt::Formatter<W>) -> fmt::Result {
         let Point { flow, loss } = *self;
         write!(f, "point of {flow} kW losing {loss} kW")

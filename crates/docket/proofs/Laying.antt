@@ -16,7 +16,8 @@ use Rattle.docket.specs.Labels.{label_in, figure_in, standing_by, leader, greate
 use Rattle.docket.specs.declared.standing.Standing.{Standing}
 use Rattle.docket.specs.declared.verdict.Verdict.{Verdict}
 use Rattle.docket.specs.declared.verdict.Verdict.TheVariants.{Accepted}
-use Rattle.docket.specs.Docketed.{Docketed, docketed, Lays}
+use Rattle.multipliers.specs.Costs.{Held}
+use Rattle.docket.specs.Docketed.{Docketed, docketed, IsStanding, Lays}
 use Rattle.docket.specs.Verdicts.{refusal}
 use Rattle.docket.proofs.Established.{schedule_more, set_more, no_schedule_more, no_set_more, stands}
 use Rattle.docket.proofs.Answering.{schedule_accepted, set_accepted, never_accepted, never_other, right}
@@ -66,14 +67,17 @@ module _ {X : Type 0} (m : X → Lists) (x : X) (kept : sound (m x) ≡ true) (b
       not_negative = e.not_negative;
     }
 
-    pub refused_lays : (w : Verdict) (s : Standing) (before : Docketed X) → w ≡ refusal f → docketed x s ≡ before → Lays m (laid k bs) w before (docketed x s)
-    refused_lays w s before e is =
-        subst (λ (d : Docketed X). Lays m (laid k bs) w d (docketed x s)) is
+    pub refused_lays : (w : Verdict) (best bound : Option Labelled) (t u : Held) (before : Docketed X) → (best_fits best ≡ true) × (bound_fits bound ≡ true)
+        → w ≡ refusal f → u ≡ t → docketed x t (standing_by best bound) ≡ before → Lays m (laid k bs) w before (docketed x u (standing_by best bound))
+    refused_lays w best bound t u before fits e same is =
+        subst (λ (d : Docketed X). Lays m (laid k bs) w d (docketed x u (standing_by best bound))) is
         (record {
           verdict = subst (RightVerdict (m x) (laid k bs)) (sym e) (right (m x) (laws (m x) kept) (laid k bs) (Err f) told);
-          history = still s;
+          history = still (standing_by best bound);
           book = refl;
-          refused = λ _. refl;
+          table = same;
+          figures = record { best = best; bound = bound; same = refl; best_within = fits.0; bound_within = fits.1 };
+          refused = λ _. ap (λ q. docketed x q (standing_by best bound)) same;
         })
 
   -- a call that is accepted
@@ -108,11 +112,15 @@ module _ {X : Type 0} (m : X → Lists) (x : X) (kept : sound (m x) ≡ true) (b
           (no_schedule_more (m x) h (laid k bs) (label_in best) (figure_in best) (λ l v b. never_other (m x) (laws (m x) kept) k bs l new.label v new.figure b a) stood.best)
           (set_more (m x) h (laid k bs) bound new a stood.lowest))
 
-      pub next_lays : (z : ℤ) (before after : Docketed X) → z ≡ new.figure → docketed x (standing_by best bound) ≡ before → after ≡ docketed x (standing_by p q) → Next k best bound new p q → Lays m (laid k bs) (Accepted z) before after
-      next_lays z before after same is gives next =
+      pub next_lays : (z : ℤ) (t u : Held) (before after : Docketed X) → (best_fits best ≡ true) × (bound_fits bound ≡ true)
+          → z ≡ new.figure → u ≡ t → docketed x t (standing_by best bound) ≡ before → after ≡ docketed x u (standing_by p q) → Next k best bound new p q → Lays m (laid k bs) (Accepted z) before after
+      next_lays z t u before after fits same stays is gives next =
+          let within = next_fits fits next in
           rw (← is, gives, same) (record {
             verdict = right (m x) (laws (m x) kept) (laid k bs) (Ok new.figure) (inr (new.label, told));
             history = next_stands next;
             book = refl;
+            table = stays;
+            figures = record { best = p; bound = q; same = refl; best_within = within.0; bound_within = within.1 };
             refused = λ e. cc;
           })

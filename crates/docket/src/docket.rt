@@ -26,12 +26,13 @@ pub struct Docket<'a, B: Book> {
 
 impl<'a, B: Book> Model for Docket<'a, B> {
     ghost use Rattle.std.specs.Prelude.{◌≡◌, true};
+    ghost use Rattle.multipliers.specs.Tables.{held};
     ghost use Rattle.docket.specs.Docketed.{Docketed, docketed};
     ghost use Rattle.docket.specs.Labels.{standing_by, best_fits, bound_fits};
 
     ghost Value = { Docketed B };
 
-    ghost view = { λ d. docketed d.book.now (standing_by d.best d.bound) };
+    ghost view = { λ d. docketed d.book.now (held d.table) (standing_by d.best d.bound) };
 
     ghost invariant = { λ d. (best_fits d.best ≡ true) × (bound_fits d.bound ≡ true) };
 }
@@ -42,6 +43,7 @@ impl<'a, B: Book> Docket<'a, B> {
         ensures book { IfOk result (λ d. d.book ≡ book.now) }
         ensures nothing { IfOk result (λ d. d.standing ≡ standing_by None None) }
         ensures stands { IfOk result (λ d. StandingOf (B.Book.meaning book.now) [] d.standing) }
+        ensures figures { IfOk result (λ d. IsStanding d.standing) }
     {
         let table = WorkingTable::new(heap)?;
         Ok(Docket {

@@ -3,3 +3,4 @@ pub mod Passes
 pub mod Columnwise
 pub mod Whole
 pub mod Laws
+pub mod Same

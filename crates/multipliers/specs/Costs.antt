@@ -1,4 +1,5 @@
 -- The working table: for each column its running reduced cost, absent if it left the reach.
+use denote.RawPtr.{Ptr}
 use Rattle.std.specs.Prelude.{ℕ, suc, Bool, false, cond, List, [], ◌∷◌, ℤ, pos, ◌*ℤ◌, Some, None, Ok, Option, Result, slice_index_or, slice_set}
 use Rattle.listing_fields.specs.declared.term.Term.{Term}
 use Rattle.listing_fields.specs.Tests.{is_nought}
@@ -12,6 +13,16 @@ use Rattle.multipliers.specs.Sums.{then, column_total}
 -- the reduced costs by column
 abbrev pub Table : Type 0
 Table = List (Option ℤ)
+
+-- the reduced costs, and the block of memory that holds them: where it begins, and for how many entries it has room
+pub record Held : Type 0 where
+  pub entries : Table
+  pub block : Ptr
+  pub room : ℕ
+
+-- other entries in the same block
+abbrev pub with_entries : Table → Held → Held
+with_entries tab h = record { entries = tab; block = h.block; room = h.room }
 
 -- an entry between calls
 abbrev pub nought : Option ℤ

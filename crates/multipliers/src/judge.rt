@@ -20,7 +20,7 @@ fn add_reduced_costs<B: Book>(
     values: Multipliers<'_>,
     total: i64,
 ) -> Result<i64, DocketFault>
-    requires { every is_clear costs.old ≡ true }
+    requires { every is_clear costs.old.entries ≡ true }
     ensures sum { result ≡ columns_total (B.Book.meaning book.now).rows (multipliers values.entry.bytes.now) 0 (B.Book.meaning book.now).columns total }
     ensures same { costs.new ≡ costs.old }
 {

@@ -10,14 +10,14 @@ use std::alloc::{AllocError, Global};
 #[derive(Drop)]
 pub struct WorkingTable {
     pub(crate) costs: Costs,
-    pub ghost long: { length costs ≡ 4000 },
-    pub ghost clear: { every is_clear costs ≡ true },
+    pub ghost long: { length costs.entries ≡ 4000 },
+    pub ghost clear: { every is_clear costs.entries ≡ true },
 }
 
 impl WorkingTable {
     /// A table of noughts, if there is memory for it.
     pub fn new(heap: Global) -> Result<WorkingTable, AllocError>
-        ensures { IfOk result (λ t. (length t.costs ≡ 4000) × (every is_clear t.costs ≡ true)) }
+        ensures { IfOk result (λ t. (length t.costs.entries ≡ 4000) × (every is_clear t.costs.entries ≡ true)) }
     {
         Ok(WorkingTable {
             costs: Costs::new(heap)?,

@@ -20,7 +20,7 @@ impl StoredRow {
     ghost use Rattle.stored_book.specs.Stored.{full_row};
 
     /// The row without its terms.
-    pub(crate) fn head(&self) -> Row
+    pub fn head(&self) -> Row
         ensures { result ≡ head (full_row self.now) }
     {
         Row {

@@ -2,7 +2,8 @@ use Rattle.std.proofs.Common.{◌≡◌, ◌≤◌, ◌++◌, length, replicate,
 use Rattle.std.proofs.lemmas.Int.{to_z-of_z}
 use Rattle.books.proofs.Sounds.{sound_parts}
 use Rattle.certificates.specs.Values.{multipliers}
-use Rattle.multipliers.specs.Costs.{nought, rows_taken, table_total}
+use Rattle.multipliers.specs.Costs.{Held, nought, rows_taken, table_total}
+use Rattle.multipliers.proofs.Same.{held_same}
 use Rattle.multipliers.proofs.Whole.{full, total_is, restored}
 use Rattle.multipliers.proofs.judge.add_reduced_costs.Goals as goal
 
@@ -17,17 +18,20 @@ returns g c =
     let b = g.B.Book.meaning c.args.book.now in
     let kept = g.met.B.Book.kept c.args.book.now in
     let ys = multipliers c.args.values.bytes.now in
-    let tab = c.args.costs.now in
+    let tab = c.args.costs.now.entries in
     let few = (sound_parts b kept).few_columns in
     let many = c.start.ensures.long in
     let long : length b.columns ≤ length tab = omega arith in
-    let is : c.subtract_rows.new.self ≡ full b kept ys tab long = c.subtract_rows.ensures ∙ ap (rows_taken b.rows ys) c.start.ensures.starts in
+    let entries = λ (h : Held). h.entries in
+    let is : c.subtract_rows.new.self.entries ≡ full b kept ys tab long = ap entries c.subtract_rows.ensures ∙ ap (λ (h : Held). rows_taken b.rows ys h.entries) c.start.ensures.starts in
     record {
       sum =
           c.add_columns-sum.ensures
-          ∙ ap (table_total 0 b.columns c.subtract_rows.new.self) (to_z-of_z w64 _ c.ranges.total)
+          ∙ ap (table_total 0 b.columns c.subtract_rows.new.self.entries) (to_z-of_z w64 _ c.ranges.total)
           ∙ ap (λ q. table_total 0 b.columns q c.args.total) is
           ∙ total_is b kept ys tab long c.args.total;
       same =
-          restored b kept ys tab long c.requires c.column_count.result c.column_count.ensures c.clear.new.self (c.clear.ensures ∙ ap (λ q. replicate c.column_count.result nought ++ drop c.column_count.result q) is);
+          held_same _ _ (restored b kept ys tab long c.requires c.column_count.result c.column_count.ensures c.clear.new.self.entries (ap entries c.clear.ensures ∙ ap (λ q. replicate c.column_count.result nought ++ drop c.column_count.result q) is))
+          (ap (λ (h : Held). h.block) (c.clear.ensures) ∙ ap (λ (h : Held). h.block) c.subtract_rows.ensures ∙ ap (λ (h : Held). h.block) c.start.ensures.starts)
+          (ap (λ (h : Held). h.room) (c.clear.ensures) ∙ ap (λ (h : Held). h.room) c.subtract_rows.ensures ∙ ap (λ (h : Held). h.room) c.start.ensures.starts);
     }

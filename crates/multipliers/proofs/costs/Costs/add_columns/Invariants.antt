@@ -10,4 +10,4 @@ invariant-loop-j g l =
     (goal.iterator-loop-j g).can_next it
     × (goal.iterator-loop-j g).is_finite it
     × (it.count + length left ≤ 4000)
-    × (costs_total it.count left it.iter.b.rest.now l.sum ≡ costs_total 0 (g.B.Book.meaning l.book).columns l.fn.self l.initial.sum)
+    × (costs_total it.count left it.iter.b.rest.now l.sum ≡ costs_total 0 (g.B.Book.meaning l.book).columns l.fn.self.entries l.initial.sum)

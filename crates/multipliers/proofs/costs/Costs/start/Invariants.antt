@@ -1,4 +1,5 @@
 use Rattle.std.proofs.Common.{◌≡◌, ◌+◌, ◌≤◌, length, drop, vec_len, vec_items}
+use Rattle.std.specs.Vec.{vec_ptr, vec_capacity}
 use Rattle.multipliers.specs.Costs.{started}
 use Rattle.multipliers.proofs.costs.Costs.start.Given as goal
 
@@ -12,3 +13,5 @@ invariant-loop-j g l =
     × (it.count + length left ≤ 4000)
     × (started it.count left (vec_items l.self-inside.entries) ≡ started 0 (g.B.Book.meaning l.book).columns (vec_items l.initial.self-inside.entries))
     × (vec_len l.self-inside.entries ≡ 4000)
+    × (vec_ptr l.self-inside.entries ≡ vec_ptr l.initial.self-inside.entries)
+    × (vec_capacity l.self-inside.entries ≡ vec_capacity l.initial.self-inside.entries)

@@ -11,4 +11,6 @@ invariant-loop-i g l =
     (goal.iterator-loop-i g).can_next l.y-iterator
     × (goal.iterator-loop-i g).is_finite l.y-iterator
     × (l.i + length left < 2 ^ 64)
-    × (rows_taken (drop l.i rs) left l.self ≡ rows_taken rs (multipliers l.values.bytes.now) l.initial.self)
+    × (rows_taken (drop l.i rs) left l.self.entries ≡ rows_taken rs (multipliers l.values.bytes.now) l.initial.self.entries)
+    × (l.self.block ≡ l.initial.self.block)
+    × (l.self.room ≡ l.initial.self.room)

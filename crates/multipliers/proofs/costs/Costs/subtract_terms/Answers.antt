@@ -1,4 +1,4 @@
-use Rattle.std.proofs.Common.{length, w64, to_z, of_z, ap, ◌∙◌, arith}
+use Rattle.std.proofs.Common.{length, refl, w64, to_z, of_z, ap, ◌∙◌, arith}
 use Rattle.listing_fields.specs.Tests.{terms_refer}
 use Rattle.books.proofs.Sounds.{sound_parts}
 use Rattle.certificates.proofs.Roads.{terms_left}
@@ -13,8 +13,10 @@ loop-term-init g c =
     let whole = terms_left g.B.Book.meaning c.args.book.now it c.args.i (cc) (cc) (cc) in (
       tt,
       tt,
-      λ i. terms_taken (whole i) (to_z w64 (of_z w64 c.args.y)) c.args.self.now,
+      λ i. terms_taken (whole i) (to_z w64 (of_z w64 c.args.y)) c.args.self.now.entries,
       ap (terms_refer (length b.columns)) whole ∙ terms_known b (g.met.B.Book.kept c.args.book.now) c.args.i,
+      refl,
+      refl,
     )
 
 pub subtract_at-requires : goal.subtract_at-requires

@@ -12,5 +12,7 @@ invariant-loop-term g l =
     let left = drop it.next (terms_of (g.B.Book.meaning it.book.now) it.row) in
     (goal.iterator-loop-term g).can_next it
     × (goal.iterator-loop-term g).is_finite it
-    × (terms_taken left l.y l.self ≡ terms_taken (terms_of b l.i) l.y l.initial.self)
+    × (terms_taken left l.y l.self.entries ≡ terms_taken (terms_of b l.i) l.y l.initial.self.entries)
     × (terms_refer (length b.columns) left ≡ true)
+    × (l.self.block ≡ l.initial.self.block)
+    × (l.self.room ≡ l.initial.self.room)
