@@ -19,6 +19,7 @@ use Rattle.docket.specs.declared.verdict.Verdict.TheVariants.{Accepted}
 use Rattle.multipliers.specs.Costs.{Held}
 use Rattle.docket.specs.Docketed.{Docketed, docketed, IsStanding, Lays}
 use Rattle.docket.specs.Verdicts.{refusal}
+use Rattle.docket.proofs.Same.{docket_same}
 use Rattle.docket.proofs.Established.{schedule_more, set_more, no_schedule_more, no_set_more, stands}
 use Rattle.docket.proofs.Answering.{schedule_accepted, set_accepted, never_accepted, never_other, right}
 use Rattle.multipliers.proofs.Laws.{figure_reaches}
@@ -77,7 +78,7 @@ module _ {X : Type 0} (m : X → Lists) (x : X) (kept : sound (m x) ≡ true) (b
           book = refl;
           table = same;
           figures = record { best = best; bound = bound; same = refl; best_within = fits.0; bound_within = fits.1 };
-          refused = λ _. ap (λ q. docketed x q (standing_by best bound)) same;
+          refused = λ _. docket_same _ _ refl same refl;
         })
 
   -- a call that is accepted

@@ -4,3 +4,4 @@ pub mod Answering
 pub mod Running
 pub mod Lawful
 pub mod Laying
+pub mod Same

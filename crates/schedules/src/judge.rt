@@ -23,5 +23,6 @@ pub fn judge_schedule<B: Book>(book: &B, values: &[u8]) -> Result<i64, DocketFau
     }
     let schedule = check_columns(book, Quantities::new(values))?;
     schedule.check_rows()?;
-    reached(schedule.net_benefit())
+    let figure = schedule.net_benefit();
+    reached(figure)
 }

@@ -26,10 +26,10 @@ pub returns : goal.returns
 returns g c =
     let b = g.B.Book.meaning c.args.book.now in
     let vs = c.args.values.now in
-    let fits : SFits w64 c.net_benefit.result = search rules in
+    let fits : SFits w64 c.net_benefit-figure.result = search rules in
     let book = c.in_ok-schedule.ensures.0 in
     let bytes = c.in_ok-schedule.ensures.1 ∙ c.new.ensures in
     let limits = rw (book, bytes) at c.in_ok-schedule.schedule.limits in
     let sides = rw (book, bytes) at c.in_ok-check_rows.ensures in
-    let figure = to_z-of_z w64 _ fits ∙ rw (book, bytes) at c.net_benefit.ensures in
+    let figure = to_z-of_z w64 _ fits ∙ rw (book, bytes) at c.net_benefit-figure.ensures in
     answered b vs _ (c.reached.ensures ∙ benefit_answers b vs (search rules) limits _ sides _ figure) (g.met.B.Book.kept _)
