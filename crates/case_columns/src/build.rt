@@ -149,7 +149,11 @@ impl Position {
     }
 
     /// Adds the columns of a record.
-    fn add_to(self, columns: &mut Vec<Named>, given: CaseRecord<'_>) -> Result<(), AllocError>
+    pub(crate) fn add_to(
+        self,
+        columns: &mut Vec<Named>,
+        given: CaseRecord<'_>,
+    ) -> Result<(), AllocError>
         ensures { OnOk result (columns.new.items ≡ columns.old.items ++ columns_of self.kinds self.place (meant given.entry)) }
     {
         match given {
@@ -165,18 +169,13 @@ impl Position {
 }
 
 /// The named columns of a case, in file order.
-#[tactic(auto, using(crate::proofs::Owned::own_added))]
 pub fn table_of(heap: Global, records: &[CaseRecord<'_>]) -> Result<Table, AllocError>
     ensures { IfOk result (λ t. columns_in t ≡ all_columns (map meant records.now)) }
 {
     let kinds = kinds_of(records);
     let mut table = Table::new(heap);
-    let mut columns = Vec::new(heap);
     for (place, given) in records.iter().enumerate() {
-        let position = Position { kinds, place };
-        columns.clear();
-        position.add_to(&mut columns, *given)?;
-        table.add_record(&columns)?;
+        table = table.add_record(Position { kinds, place }, *given)?;
     }
     Ok(table)
 }
