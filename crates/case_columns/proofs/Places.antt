@@ -1,5 +1,5 @@
 -- The places of columns as a table grows, and what they say of the columns of some records.
-use Rattle.std.proofs.Common.{◌≡◌, ℕ, zero, suc, ◌+◌, ◌<◌, ◌≤◌, Bool, true, false, cond, ◌&&◌, leb, ◌⊎◌, List, [], ◌∷◌, ◌++◌, map, length, get_or, sym, refl, ap, ◌∙◌, subst, inl, inr, arith, le-ltb, le-leb, leb-true}
+use Rattle.std.proofs.Common.{◌≡◌, ℕ, zero, suc, ◌+◌, ◌<◌, ◌≤◌, Bool, true, false, ◌&&◌, leb, ◌⊎◌, List, [], ◌∷◌, ◌++◌, map, length, get_or, sym, refl, ap, ◌∙◌, subst, inl, inr, arith, le-ltb, le-leb, leb-true}
 use borrow.Author.Tests.{lt-leb}
 use Rattle.std.proofs.lemmas.List.{append-nil, append_assoc, map_push, get_or_append_left, get_or_push, length_push, length-map, get_or-map}
 use Rattle.std.proofs.lemmas.Bool.{cases_lt}
@@ -99,21 +99,19 @@ all_placed cs ss (x ∷ xs) own low placed =
     subst (λ (l : List Named). Placed l ss) (append_assoc cs (x ∷ []) xs)
     (all_placed (cs ++ x ∷ []) ss xs own.1 (low_after cs ss x own.0 low placed) (placed_after cs ss x own.0 low placed))
 
--- a record is begun, and its columns are added or not
+-- a record is begun, and its columns are added
 module _ (cs : List Named) (ss : List ℕ) (n : ℕ) (ts : List ℕ) (xs : List Named) (e : n ≡ length cs) (f : ts ≡ ss ++ n ∷ []) (own : Own (length ss + 1) xs) (low : Low cs ss) (placed : Placed cs ss) where
   begun_own : Own (length (ss ++ n ∷ [])) xs
   begun_own = subst (λ (k : ℕ). Own k xs) (sym (length_push ss n)) own
 
-  pub record_low : (b : Bool) (ds : List Named) → ds ≡ cond b (cs ++ xs) cs → Low ds ts
-  record_low false ds g = let l = begun_low cs ss n e low in rw (g, f) l
-  record_low true ds g =
+  pub record_low : (ds : List Named) → ds ≡ cs ++ xs → Low ds ts
+  record_low ds g =
       let l = begun_low cs ss n e low in
       let p = begun_placed cs ss n e placed in
       rw (g, f) (all_low cs (ss ++ n ∷ []) xs begun_own l p)
 
-  pub record_placed : (b : Bool) (ds : List Named) → ds ≡ cond b (cs ++ xs) cs → Placed ds ts
-  record_placed false ds g = let p = begun_placed cs ss n e placed in rw (g, f) p
-  record_placed true ds g =
+  pub record_placed : (ds : List Named) → ds ≡ cs ++ xs → Placed ds ts
+  record_placed ds g =
       let l = begun_low cs ss n e low in
       let p = begun_placed cs ss n e placed in
       rw (g, f) (all_placed cs (ss ++ n ∷ []) xs begun_own l p)

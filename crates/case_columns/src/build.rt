@@ -1,5 +1,5 @@
 //! The columns of each record, and of a case.
-ghost use Rattle.std.specs.Prelude.{◌≡◌, map, IfOk};
+ghost use Rattle.std.specs.Prelude.{◌≡◌, ◌++◌, map, IfOk, OnOk};
 ghost use Rattle.case_fields.specs.Meant.{node_meant, line_meant, energy_offer_meant, bid_meant, regulation_offer_meant, requirement_meant, meant};
 ghost use Rattle.case_columns.specs.Kinds.{at};
 ghost use Rattle.case_columns.specs.Tables.{columns_in};
@@ -66,15 +66,13 @@ impl Position {
         ]
     }
 
-    /// The columns of a line.
-    fn line(self, heap: Global, line: Line<'_>) -> Result<Vec<Named>, AllocError>
-        ensures { IfOk result (λ v. v.items ≡ columns_of self.kinds self.place (line_meant line.entry)) }
+    /// Adds the columns of a line.
+    fn line(self, columns: &mut Vec<Named>, line: Line<'_>) -> Result<(), AllocError>
+        ensures { OnOk result (columns.new.items ≡ columns.old.items ++ columns_of self.kinds self.place (line_meant line.entry)) }
     {
         let place = self.place;
-        self.line_front(line)
-            .into_iter()
-            .chain(line.points.iter().map(|point| weight(place, point)))
-            .collect(heap)
+        columns.extend_from_slice(&self.line_front(line))?;
+        columns.extend(line.points.iter().map(|point| weight(place, point)))
     }
 
     /// The columns of an energy offer before its blocks.
@@ -90,28 +88,23 @@ impl Position {
         ]
     }
 
-    /// The columns of an energy offer.
-    fn offer(self, heap: Global, offer: EnergyOffer<'_>) -> Result<Vec<Named>, AllocError>
-        ensures { IfOk result (λ v. v.items ≡ columns_of self.kinds self.place (energy_offer_meant offer.entry)) }
+    /// Adds the columns of an energy offer.
+    fn offer(self, columns: &mut Vec<Named>, offer: EnergyOffer<'_>) -> Result<(), AllocError>
+        ensures { OnOk result (columns.new.items ≡ columns.old.items ++ columns_of self.kinds self.place (energy_offer_meant offer.entry)) }
     {
         let place = self.place;
         let blocks = offer.blocks.iter();
-        self.offer_front(offer)
-            .into_iter()
-            .chain(blocks.map(|block| sold(Quantity::OfferBlock, place, block)))
-            .collect(heap)
+        columns.extend_from_slice(&self.offer_front(offer))?;
+        columns.extend(blocks.map(|block| sold(Quantity::OfferBlock, place, block)))
     }
 
-    /// The columns of a bid.
-    fn bid(self, heap: Global, bid: Bid<'_>) -> Result<Vec<Named>, AllocError>
-        ensures { IfOk result (λ v. v.items ≡ columns_of self.kinds self.place (bid_meant bid.entry)) }
+    /// Adds the columns of a bid.
+    fn bid(self, columns: &mut Vec<Named>, bid: Bid<'_>) -> Result<(), AllocError>
+        ensures { OnOk result (columns.new.items ≡ columns.old.items ++ columns_of self.kinds self.place (bid_meant bid.entry)) }
     {
         let place = self.place;
-        let purchase = free(Quantity::Purchase, place, self.node_place(bid.node));
-        [purchase]
-            .into_iter()
-            .chain(bid.blocks.iter().map(|block| bought(place, block)))
-            .collect(heap)
+        columns.push(free(Quantity::Purchase, place, self.node_place(bid.node)))?;
+        columns.extend(bid.blocks.iter().map(|block| bought(place, block)))
     }
 
     /// The columns of a regulation offer before its blocks.
@@ -128,16 +121,18 @@ impl Position {
         ]
     }
 
-    /// The columns of a regulation offer.
-    fn regulation(self, heap: Global, offer: RegulationOffer<'_>) -> Result<Vec<Named>, AllocError>
-        ensures { IfOk result (λ v. v.items ≡ columns_of self.kinds self.place (regulation_offer_meant offer.entry)) }
+    /// Adds the columns of a regulation offer.
+    fn regulation(
+        self,
+        columns: &mut Vec<Named>,
+        offer: RegulationOffer<'_>,
+    ) -> Result<(), AllocError>
+        ensures { OnOk result (columns.new.items ≡ columns.old.items ++ columns_of self.kinds self.place (regulation_offer_meant offer.entry)) }
     {
         let place = self.place;
         let blocks = offer.blocks.iter();
-        self.regulation_front(offer)
-            .into_iter()
-            .chain(blocks.map(|block| sold(Quantity::RegulationBlock, place, block)))
-            .collect(heap)
+        columns.extend_from_slice(&self.regulation_front(offer))?;
+        columns.extend(blocks.map(|block| sold(Quantity::RegulationBlock, place, block)))
     }
 
     /// The column of the requirement.
@@ -153,32 +148,34 @@ impl Position {
         )]
     }
 
-    /// The columns of a record.
-    fn columns(self, heap: Global, given: CaseRecord<'_>) -> Result<Vec<Named>, AllocError>
-        ensures { IfOk result (λ v. v.items ≡ columns_of self.kinds self.place (meant given.entry)) }
+    /// Adds the columns of a record.
+    pub(crate) fn add_to(
+        self,
+        columns: &mut Vec<Named>,
+        given: CaseRecord<'_>,
+    ) -> Result<(), AllocError>
+        ensures { OnOk result (columns.new.items ≡ columns.old.items ++ columns_of self.kinds self.place (meant given.entry)) }
     {
         match given {
-            CaseRecord::Period(_) => Ok(Vec::new(heap)),
-            CaseRecord::Node(node) => Vec::from_slice(heap, &self.node(node)),
-            CaseRecord::Line(line) => self.line(heap, line),
-            CaseRecord::EnergyOffer(offer) => self.offer(heap, offer),
-            CaseRecord::Bid(bid) => self.bid(heap, bid),
-            CaseRecord::RegulationOffer(offer) => self.regulation(heap, offer),
-            CaseRecord::Requirement(needed) => Vec::from_slice(heap, &self.requirement(needed)),
+            CaseRecord::Period(_) => Ok(()),
+            CaseRecord::Node(node) => columns.extend_from_slice(&self.node(node)),
+            CaseRecord::Line(line) => self.line(columns, line),
+            CaseRecord::EnergyOffer(offer) => self.offer(columns, offer),
+            CaseRecord::Bid(bid) => self.bid(columns, bid),
+            CaseRecord::RegulationOffer(offer) => self.regulation(columns, offer),
+            CaseRecord::Requirement(needed) => columns.extend_from_slice(&self.requirement(needed)),
         }
     }
 }
 
 /// The named columns of a case, in file order.
-#[tactic(auto, using(crate::proofs::Owned::own_added))]
 pub fn table_of(heap: Global, records: &[CaseRecord<'_>]) -> Result<Table, AllocError>
     ensures { IfOk result (λ t. columns_in t ≡ all_columns (map meant records.now)) }
 {
     let kinds = kinds_of(records);
     let mut table = Table::new(heap);
     for (place, given) in records.iter().enumerate() {
-        let position = Position { kinds, place };
-        table.add_record(&position.columns(heap, *given)?)?;
+        table = table.add_record(Position { kinds, place }, *given)?;
     }
     Ok(table)
 }

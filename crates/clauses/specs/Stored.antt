@@ -1,5 +1,5 @@
 -- What stored rows hold, and when a clause or several have no rows.
-use Rattle.std.specs.Prelude.{◌≡◌, false, Bool, ◌&&◌, List, map, pos, neg_ℤ, int_le, nat_lt, vec_items, Vec, Result, MatchResult}
+use Rattle.std.specs.Prelude.{◌≡◌, false, Bool, ◌&&◌, List, ◌++◌, map, pos, neg_ℤ, int_le, nat_lt, vec_items, Vec, Result, MatchResult}
 use Rattle.std.specs.List.{list_all}
 use Rattle.std.specs.declared.alloc.Global.{Global}
 use Rattle.listing_fields.specs.declared.term.Term.{Term}
@@ -32,6 +32,11 @@ Makes cs d r = MatchResult r (λ s. full_row s ≡ row_of cs d) (λ e. e ≡ Out
 abbrev pub MakesAll : List Named → List Clause → Result (Vec StoredRow Global) ClauseError → Type 0
 MakesAll cs ds r =
     MatchResult r (λ v. rows_in v ≡ map (row_of cs) ds) (λ e. e ≡ OutOfRange → list_all holds_row (map (row_of cs) ds) ≡ false)
+
+-- the second rows are the first with those of clauses behind; where one is out of range, it has a term that is
+abbrev pub AddsAll : List Named → Vec StoredRow Global → Vec StoredRow Global → List Clause → Result (Unit {0}) ClauseError → Type 0
+AddsAll cs v w ds r =
+    MatchResult r (λ _. rows_in w ≡ rows_in v ++ map (row_of cs) ds) (λ e. e ≡ OutOfRange → list_all holds_row (map (row_of cs) ds) ≡ false)
 
 -- rows are refused as out of range only where one has a term that does not fit
 abbrev pub IsRefused : {X : Type 0} → List Named → List Clause → Result X ClauseError → Type 0

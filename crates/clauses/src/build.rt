@@ -1,11 +1,11 @@
 //! The rows of each record, and of a case.
 ghost use Rattle.std.specs.Prelude.{◌≡◌, map, false, IfOk, MatchResult};
 ghost use Rattle.std.specs.List.{list_all};
-ghost use Rattle.case_fields.specs.Meant.{line_meant, energy_offer_meant, regulation_offer_meant, meant};
+ghost use Rattle.case_fields.specs.Meant.{line_meant, energy_offer_meant, bid_meant, regulation_offer_meant, requirement_meant, meant};
 ghost use Rattle.case_columns.specs.Tables.{columns_in};
 ghost use Rattle.clauses.specs.Rows.{row_of};
 ghost use Rattle.clauses.specs.Singly.{Singly};
-ghost use Rattle.clauses.specs.Stored.{rows_in, holds_row, MakesAll};
+ghost use Rattle.clauses.specs.Stored.{rows_in, holds_row, MakesAll, AddsAll};
 ghost use Rattle.clauses.specs.Clauses.{node_clauses, clauses_in, clauses};
 ghost use Rattle.clauses.specs.declared.error.ClauseError.TheVariants.{OutOfRange};
 
@@ -15,67 +15,86 @@ use crate::row::Clauses;
 use crate::setting::Setting;
 use case_columns::count::kinds_of;
 use case_columns::table::Table;
-use case_fields::record::{CaseRecord, EnergyOffer, Line, RegulationOffer};
+use case_fields::record::{Bid, CaseRecord, EnergyOffer, Line, RegulationOffer, Requirement};
 use std::alloc::Global;
 use stored_book::row::StoredRow;
 
 impl Clauses<'_> {
-    /// The rows of a node.
-    fn node(self) -> Result<Vec<StoredRow>, ClauseError>
-        ensures { MakesAll (columns_in self.entry.table.now) (node_clauses self.entry.setting) result }
+    /// Adds the rows of a node.
+    fn node(self, rows: &mut Vec<StoredRow>) -> Result<(), ClauseError>
+        ensures { AddsAll (columns_in self.entry.table.now) rows.old rows.new (node_clauses self.entry.setting) result }
     {
-        Ok(vec![in self.heap; self.d_16_1_1()?, self.d_16_1_2()?]?)
+        rows.push(self.d_16_1_1()?)?;
+        rows.push(self.d_16_1_2()?)?;
+        Ok(())
     }
 
-    /// The rows of a line.
-    fn line(self, line: Line<'_>) -> Result<Vec<StoredRow>, ClauseError>
-        ensures { MakesAll (columns_in self.entry.table.now) (clauses_in self.entry.setting (line_meant line.entry)) result }
+    /// Adds the rows of a line.
+    fn line(self, rows: &mut Vec<StoredRow>, line: Line<'_>) -> Result<(), ClauseError>
+        ensures { AddsAll (columns_in self.entry.table.now) rows.old rows.new (clauses_in self.entry.setting (line_meant line.entry)) result }
     {
-        Ok(vec![in self.heap;
-            self.d_16_2_1(line)?,
-            self.d_16_2_2(line)?,
-            self.d_16_2_3(line)?,
-            self.d_16_3_1()?,
-            self.d_16_3_2()?,
-            self.d_16_3_3()?,
-        ]?)
+        rows.push(self.d_16_2_1(line)?)?;
+        rows.push(self.d_16_2_2(line)?)?;
+        rows.push(self.d_16_2_3(line)?)?;
+        rows.push(self.d_16_3_1()?)?;
+        rows.push(self.d_16_3_2()?)?;
+        rows.push(self.d_16_3_3()?)?;
+        Ok(())
     }
 
-    /// The rows of an energy offer.
-    fn offer(self, offer: EnergyOffer<'_>) -> Result<Vec<StoredRow>, ClauseError>
-        ensures { MakesAll (columns_in self.entry.table.now) (clauses_in self.entry.setting (energy_offer_meant offer.entry)) result }
+    /// Adds the rows of an energy offer.
+    fn offer(self, rows: &mut Vec<StoredRow>, offer: EnergyOffer<'_>) -> Result<(), ClauseError>
+        ensures { AddsAll (columns_in self.entry.table.now) rows.old rows.new (clauses_in self.entry.setting (energy_offer_meant offer.entry)) result }
     {
-        Ok(vec![in self.heap;
-            self.d_15_1_2()?,
-            self.d_19_1_1(offer)?,
-            self.d_19_1_2(offer)?,
-        ]?)
+        rows.push(self.d_15_1_2()?)?;
+        rows.push(self.d_19_1_1(offer)?)?;
+        rows.push(self.d_19_1_2(offer)?)?;
+        Ok(())
     }
 
-    /// The rows of a regulation offer.
-    fn regulation(self, offer: RegulationOffer<'_>) -> Result<Vec<StoredRow>, ClauseError>
-        ensures { MakesAll (columns_in self.entry.table.now) (clauses_in self.entry.setting (regulation_offer_meant offer.entry)) result }
+    /// Adds the row of a bid.
+    fn bid(self, rows: &mut Vec<StoredRow>, bid: Bid<'_>) -> Result<(), ClauseError>
+        ensures { AddsAll (columns_in self.entry.table.now) rows.old rows.new (clauses_in self.entry.setting (bid_meant bid.entry)) result }
     {
-        Ok(vec![in self.heap;
-            self.d_18_1_2()?,
-            self.d_18_1_3(offer)?,
-            self.d_18_1_4(offer)?,
-            self.d_18_1_5()?,
-        ]?)
+        rows.push(self.d_15_2_2()?)?;
+        Ok(())
     }
 
-    /// The rows of a record.
-    fn rows(self, given: CaseRecord<'_>) -> Result<Vec<StoredRow>, ClauseError>
-        ensures { MakesAll (columns_in self.entry.table.now) (clauses_in self.entry.setting (meant given.entry)) result }
+    /// Adds the rows of a regulation offer.
+    fn regulation(
+        self,
+        rows: &mut Vec<StoredRow>,
+        offer: RegulationOffer<'_>,
+    ) -> Result<(), ClauseError>
+        ensures { AddsAll (columns_in self.entry.table.now) rows.old rows.new (clauses_in self.entry.setting (regulation_offer_meant offer.entry)) result }
+    {
+        rows.push(self.d_18_1_2()?)?;
+        rows.push(self.d_18_1_3(offer)?)?;
+        rows.push(self.d_18_1_4(offer)?)?;
+        rows.push(self.d_18_1_5()?)?;
+        Ok(())
+    }
+
+    /// Adds the row of the requirement.
+    fn requirement(self, rows: &mut Vec<StoredRow>, needed: Requirement) -> Result<(), ClauseError>
+        ensures { AddsAll (columns_in self.entry.table.now) rows.old rows.new (clauses_in self.entry.setting (requirement_meant needed)) result }
+    {
+        rows.push(self.d_18_2_1(needed)?)?;
+        Ok(())
+    }
+
+    /// Adds the rows of a record.
+    fn add_to(self, rows: &mut Vec<StoredRow>, given: CaseRecord<'_>) -> Result<(), ClauseError>
+        ensures { AddsAll (columns_in self.entry.table.now) rows.old rows.new (clauses_in self.entry.setting (meant given.entry)) result }
     {
         match given {
-            CaseRecord::Period(_) => Ok(Vec::new(self.heap)),
-            CaseRecord::Node(_) => self.node(),
-            CaseRecord::Line(line) => self.line(line),
-            CaseRecord::EnergyOffer(offer) => self.offer(offer),
-            CaseRecord::Bid(_) => Ok(vec![in self.heap; self.d_15_2_2()?]?),
-            CaseRecord::RegulationOffer(offer) => self.regulation(offer),
-            CaseRecord::Requirement(needed) => Ok(vec![in self.heap; self.d_18_2_1(needed)?]?),
+            CaseRecord::Period(_) => Ok(()),
+            CaseRecord::Node(_) => self.node(rows),
+            CaseRecord::Line(line) => self.line(rows, line),
+            CaseRecord::EnergyOffer(offer) => self.offer(rows, offer),
+            CaseRecord::Bid(bid) => self.bid(rows, bid),
+            CaseRecord::RegulationOffer(offer) => self.regulation(rows, offer),
+            CaseRecord::Requirement(needed) => self.requirement(rows, needed),
         }
     }
 }
@@ -105,7 +124,7 @@ pub fn rows_of(
             table,
             setting,
         };
-        rows.append(&mut clauses.rows(*given)?)?;
+        clauses.add_to(&mut rows, *given)?;
     }
     Ok(rows)
 }

@@ -1,9 +1,12 @@
 //! Building a table, record by record.
-ghost use Rattle.std.specs.Prelude.{◌≡◌, ◌+◌, [], OnOk};
-ghost use Rattle.case_columns.specs.Tables.{columns_in, begun, Own, Adds};
+ghost use Rattle.std.specs.Prelude.{◌≡◌, [], IfOk};
+ghost use Rattle.case_fields.specs.Meant.{meant};
+ghost use Rattle.case_columns.specs.Columns.{columns_of};
+ghost use Rattle.case_columns.specs.Tables.{columns_in, begun, Adds};
 
-use crate::name::Named;
+use crate::position::Position;
 use crate::table::Table;
+use case_fields::record::CaseRecord;
 use std::alloc::{AllocError, Global};
 
 impl Table {
@@ -18,12 +21,19 @@ impl Table {
         }
     }
 
-    /// Adds the columns of the next record.
-    pub(crate) fn add_record(&mut self, columns: &[Named]) -> Result<(), AllocError>
-        requires { Own (begun self.old + 1) columns.now }
-        ensures { OnOk result (Adds self.old self.new columns.now) }
+    /// The table with the columns of the next record added.
+    pub(crate) fn add_record(
+        self,
+        position: Position,
+        given: CaseRecord<'_>,
+    ) -> Result<Table, AllocError>
+        requires { position.place ≡ begun self }
+        ensures { IfOk result (λ t. Adds self t (columns_of position.kinds position.place (meant given.entry))) }
     {
-        self.starts.push(self.named.len())?;
-        self.named.extend_from_slice(columns)
+        let mut named = self.named;
+        let mut starts = self.starts;
+        starts.push(named.len())?;
+        position.add_to(&mut named, given)?;
+        Ok(Table { named, starts })
     }
 }

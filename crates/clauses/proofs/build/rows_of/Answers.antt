@@ -1,13 +1,11 @@
-use Rattle.std.proofs.Common.{◌≡◌, ◌++◌, map, vec_items, sym, refl, ap, ◌∙◌, arith, w32, to_z, of_z}
+use Rattle.std.proofs.Common.{◌≡◌, ◌++◌, map, sym, refl, ap, ◌∙◌, arith, w32, to_z, of_z}
 use Rattle.std.proofs.lemmas.Int.{ints}
-use Rattle.std.proofs.lemmas.List.{map-append}
 use Rattle.case_fields.specs.Meant.{meant}
 use Rattle.stored_book.specs.Stored.{full_row}
 use Rattle.case_columns.specs.Spread.{spread}
 use Rattle.case_columns.specs.Tables.{columns_in}
 use Rattle.clauses.proofs.Steps.{given, all_given, spread_map}
 use Rattle.clauses.specs.Rows.{row_of}
-use Rattle.clauses.specs.Stored.{rows_in}
 use Rattle.clauses.specs.Clauses.{Common, common, clauses_of, clauses}
 use Rattle.clauses.proofs.Single.{singly}
 use Rattle.clauses.proofs.build.rows_of.Goals as goal
@@ -24,10 +22,7 @@ loop-place-preserved c =
     let row = row_of (columns_in c.args.table.now) in
     let k = c.kinds_of-kinds.ensures.value in
     let a : to_z w32 (of_z w32 c.allowance_of-allowance.result) ≡ c.allowance_of-allowance.result = omega (arith, ints) in
-    let added =
-    ap (map full_row) c.in_ok-append.ensures.items
-    ∙ map-append full_row (vec_items c.loop-place.rows) (vec_items c.in_ok-rows.field-0)
-    ∙ ap (λ l. rows_in c.loop-place.rows ++ l) c.in_ok-rows.ensures in
+    let added = c.in_ok-add_to.ensures in
     given (λ (m : Common) r e. map row (clauses_of m r e)) (common (map meant rs)) meant rs c.loop-place.place _ _ _ _ _ _ c.loop-place-test.true (λ i. record { kinds = k i; allowance = (a ∙ c.allowance_of-allowance.ensures) i }) refl added c.loop-place.invariant
 
 pub returns : goal.returns
