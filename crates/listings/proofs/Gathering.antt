@@ -1,10 +1,13 @@
 -- What one record adds to the columns and the rows.
-use Rattle.std.proofs.Common.{◌≡◌, List, [], ◌∷◌, ◌++◌, map, sym, refl, ap, ◌∙◌}
-use Rattle.std.proofs.lemmas.List.{append-nil, map_push}
+use Rattle.std.proofs.Common.{◌≡◌, ◌+◌, ◌<◌, false, List, [], ◌∷◌, ◌++◌, map, length, sym, refl, ap, ◌∙◌, ⊎_elim, arith}
+use Rattle.std.proofs.lemmas.Bool.{cases_Bool}
+use Rattle.std.proofs.lemmas.List.{append-nil, length-map, map_push}
 use Rattle.listing_fields.specs.Entries.{Entry}
 use Rattle.listing_fields.specs.Entries.Entry.{column, row}
 use Rattle.books.specs.declared.part.Column.{Column}
 use Rattle.books.specs.Lists.{FullRow}
+use Rattle.books.specs.Conditions.{sound}
+use Rattle.books.proofs.Sounds.{sound_parts}
 use Rattle.stored_book.specs.declared.row.StoredRow.{StoredRow}
 use Rattle.stored_book.specs.Stored.{full_row, stored_lists}
 use Rattle.listings.specs.Listed.{column_entry, row_entry, column_of, row_of, columns_given, rows_given, given}
@@ -39,3 +42,14 @@ module _ (cs cs' : List Column) (rs rs' : List StoredRow) (es es' : List Entry) 
       ∙ ap (λ d. rows_given es ++ d ∷ []) (sym (row_forth f))
       ∙ sym (rows_push es (row_entry f)) in
       (λ i. record { columns = others i; rows = rows i }) ∙ ap given (ap (λ d. es ++ d ∷ []) (sym is) ∙ sym more)
+
+-- each record is a column or a row, so more than 8,000 are too many of the one or of the other
+given_all : (es : List Entry) → length (columns_given es) + length (rows_given es) ≡ length es
+given_all [] = refl
+given_all (column c ∷ es) = omega (arith, given_all es)
+given_all (row r ∷ es) = omega (arith, given_all es)
+
+pub many_records : {X : Type 0} (f : X → Entry) (xs : List X) → 8000 < length xs → sound (given (map f xs)) ≡ false
+many_records f xs h =
+    ⊎_elim (λ t. let p = sound_parts (given (map f xs)) t in absurd (omega (arith, h, p.few_columns, p.few_rows, given_all (map f xs), length-map xs f)))
+    (λ e. e) (cases_Bool (sound (given (map f xs))))

@@ -19,6 +19,8 @@ use std::alloc::Global;
 use stored_book::book::StoredBook;
 
 /// The book of the lists that records give, which take a listing of this length.
+/// Rows are gathered only from records that are not too many: 4,000 columns and 4,000 rows are 8,000.
+#[tactic(auto, using(crate::proofs::Gathering::many_records))]
 fn build(
     heap: Global,
     records: &[ListingRecord<'_>],
@@ -28,6 +30,9 @@ fn build(
         (λ b. listed_lists b ≡ given (map meant records.now))
         (λ e. (e ≡ Memory) ⊎ ((e ≡ Fault (TooLarge length)) × (sound (given (map meant records.now)) ≡ false))) }
 {
+    if records.len() > 8000 {
+        return Err(BookError::Fault(BookFault::TooLarge { length }));
+    }
     let (columns, rows) = gather(heap, records)?;
     let book = StoredBook::new(columns, rows).ok_or(BookFault::TooLarge { length })?;
     Ok(ListedBook { book })

@@ -1,18 +1,13 @@
 use Rattle.std.proofs.Common.{vec_items, ap, ◌∙◌, w32, SFits, rules}
 use Rattle.std.proofs.lemmas.List.{map_more}
 use Rattle.std.proofs.lemmas.Int.{to_z-of_z}
-use Rattle.std.proofs.lemmas.Iterator.{items_from_collect}
-use Rattle.std.proofs.lemmas.Iterator.Consumers.{YieldsList-from_first}
-use Rattle.std.proofs.lemmas.Result.{IfOk-at_ok}
-use Rattle.fields.specs.declared.sequence.Elements.{Elements}
-use Rattle.listing_fields.specs.declared.term.Term.{Term}
 use Rattle.listing_fields.specs.Terms.{terms_in}
 use Rattle.listing_fields.specs.Meant.{meant}
 use Rattle.books.specs.declared.part.Column.{Column}
 use Rattle.books.specs.Lists.{FullRow}
 use Rattle.listings.proofs.Gathering.{column_more, row_more}
 use Rattle.listings.proofs.gather.gather.Goals as goal
-use Rattle.listings.proofs.gather.gather.Goals.{in-Column+in_ok-push-in-Column, in-Row+in_ok-collect-in-Row+in_ok-push-in-Row}
+use Rattle.listings.proofs.gather.gather.Goals.{in-Column+in_ok-push-in-Column, in-Row+in_ok-owned_terms-in-Row+in_ok-push-in-Row}
 
 pub loop-next-preserved : goal.loop-next-preserved
 loop-next-preserved c =
@@ -26,10 +21,10 @@ loop-next-preserved c =
           let more = map_more meant c.args.records.now c.loop-next.next-index _ c.loop-next-test.true in
           column_more _ _ _ _ _ _ _ c.loop-next.invariant more _ column (λ j. record { lower = to_z-of_z w32 i.lower fl j; upper = to_z-of_z w32 i.upper fu j; price = to_z-of_z w32 i.price fp j; switch = i.switch })
           (ap meant i.is) (ap vec_items w.columns-is ∙ w.in_ok-push-in-Column.ensures.items) (ap vec_items w.rows-is)
-      | in-Row+in_ok-collect-in-Row+in_ok-push-in-Row w ↦
+      | in-Row+in_ok-owned_terms-in-Row+in_ok-push-in-Row w ↦
           let more = map_more meant c.args.records.now c.loop-next.next-index _ c.loop-next-test.true in
           let i = w.in-Row in
-          let terms = IfOk-at_ok _ w.in_ok-collect-in-Row.was (items_from_collect w.collect.result w.collect.ensures.ran (YieldsList-from_first (λ (t : Term). t) (λ (z : Elements Term). terms_in z.rest.now) _ (ap terms_in w.iter.ensures))) in
+          let terms = w.in_ok-owned_terms-in-Row.ensures in
           let full : FullRow = record { code = i.code; lower = i.lower; upper = i.upper; terms = terms_in i.terms.bytes.now } in
           row_more _ _ _ _ _ _ _ c.loop-next.invariant more _ full (λ j. record { code = i.code; lower = i.lower; upper = i.upper; terms = terms j })
           (ap meant i.is) (ap vec_items w.columns-is) (ap vec_items w.rows-is ∙ w.in_ok-push-in-Row.ensures.items)
