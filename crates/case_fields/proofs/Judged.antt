@@ -40,20 +40,20 @@ module _ {s : Summary} {es : List Entry} (u : SumsUp s es) {bs : List ℕ} {t : 
     is_known : known t ≡ true
     is_known = sym (ap (λ (o : Option RecordKind). elim o [ Some j ↦ true | None ↦ false ]) some)
 
-    follows_is : follows es t ≡ in_turn (last_tag s.ends) k (tag_of k)
+    follows_is : follows es t ≡ in_turn (last_tag s.last) k (tag_of k)
     follows_is =
         sym (ap (λ (o : Option RecordKind). elim o [ Some j ↦ in_turn (tag_of_last es) j t | None ↦ false ]) some)
         ∙ sym (ap (λ l. in_turn l k t) u.last)
-        ∙ ap (in_turn (last_tag s.ends) k) (sym (kind_tag t k some))
+        ∙ ap (in_turn (last_tag s.last) k) (sym (kind_tag t k some))
 
     sized_is : (n : ℕ) → sized t n ≡ takes k n
     sized_is n = sym (ap (λ (o : Option RecordKind). elim o [ Some j ↦ takes j n | None ↦ false ]) some)
 
-    pub out_of_turn : false ≡ in_turn (last_tag s.ends) k (tag_of k) → First (checks case_format es bs) TagOrder
+    pub out_of_turn : false ≡ in_turn (last_tag s.last) k (tag_of k) → First (checks case_format es bs) TagOrder
     unfolding case_format
     out_of_turn n = first_order case_format es p is_known (follows_is ∙ sym n)
 
-    module _ (turn : true ≡ in_turn (last_tag s.ends) k (tag_of k)) where
+    module _ (turn : true ≡ in_turn (last_tag s.last) k (tag_of k)) where
       pub unfit_length : (f : FaultKind) → f ≡ BadLength → takes k (length b) ≡ false → First (checks case_format es bs) f
       unfolding case_format
       unfit_length f is n =

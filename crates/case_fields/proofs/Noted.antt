@@ -1,12 +1,10 @@
 -- A summary with one record more.
-use Rattle.std.proofs.Common.{◌≡◌, ℕ, zero, suc, ◌+◌, ◌<◌, ◌≤◌, Bool, Some, None, Option, true, false, eqb, ltb, List, [], ◌∷◌, ◌++◌, length, get_or, set, vec_items, vec_len, sym, refl, ap, ◌∙◌, subst, inl, inr, ◌⊎◌, arith, ltb-true, eqb-true, ne_eqb, lit≤}
+use Rattle.std.proofs.Common.{◌≡◌, ℕ, zero, suc, ◌+◌, ◌<◌, ◌≤◌, Bool, Some, None, Option, true, false, eqb, ltb, List, [], ◌∷◌, ◌++◌, length, get_or, set, vec_items, vec_len, sym, refl, ap, ◌∙◌, subst, inl, inr, ◌⊎◌, arith, ltb-true, ne_eqb, lit≤}
 use Rattle.case_fields.specs.declared.summary.Summary.{Summary}
-use Rattle.case_fields.specs.declared.summary.Ends.{Ends}
 use Rattle.case_fields.specs.declared.kind.RecordKind.{RecordKind}
 use Rattle.case_fields.specs.declared.kind.RecordKind.TheVariants.{Period, Node, Line, EnergyOffer, Bid, RegulationOffer, Requirement}
 use Rattle.case_fields.specs.declared.record.CaseRecord.{CaseRecord}
 use Rattle.case_fields.specs.declared.record.CaseRecord.TheVariants as variant
-use Rattle.case_fields.specs.declared.record.Period as declared_period
 use Rattle.case_fields.specs.declared.record.Line as declared_line
 use Rattle.case_fields.specs.declared.record.Bid as declared_bid
 use Rattle.case_fields.specs.declared.record.Requirement as declared_requirement
@@ -16,7 +14,7 @@ use Rattle.case_fields.specs.Entries as Entries
 use Rattle.case_fields.specs.Entries.{Entry}
 use Rattle.case_fields.specs.Entries.Entry.{period, node, line, energy_offer, bid, regulation_offer, requirement}
 use Rattle.case_fields.specs.Encoding.{tag}
-use Rattle.case_fields.specs.Summaries.{SumsUp, last_tag, begins, ends, extended}
+use Rattle.case_fields.specs.Summaries.{SumsUp, last_tag, ends}
 use Rattle.case_fields.specs.Tests.{either, one, tag_of_last, count, regulates, regulated, follows, refers}
 
 last_push : (es : List Entry) (e : Entry) → tag_of_last (es ++ e ∷ []) ≡ tag e
@@ -39,83 +37,70 @@ regulated_push k [] e = refl
 regulated_push k (d ∷ es) e =
     ap (either (regulates k d)) (regulated_push k es e) ∙ either_swap (regulates k d) (regulates k e) (regulated k es)
 
--- what tags that never fall, and a period that comes once, say of the tags before one
-record Rises (n t : ℕ) : Type 0 where
-  above : n ≤ t
-  first : t ≡ 1 → n ≡ 0
+-- tags never fall
+rises : (es : List Entry) (e : Entry) → follows es (tag e) ≡ true → tag_of_last es ≤ tag e
+rises es (period p) h = grind arith
+rises es (node n) h = grind arith
+rises es (line l) h = grind arith
+rises es (energy_offer o) h = grind arith
+rises es (bid b) h = grind arith
+rises es (regulation_offer r) h = grind arith
+rises es (requirement q) h = grind arith
 
-rises : (es : List Entry) (e : Entry) → follows es (tag e) ≡ true → Rises (tag_of_last es) (tag e)
-rises es (period p) h = record { above = grind arith; first = λ _. grind arith }
-rises es (node n) h = record { above = grind arith; first = λ z. absurd (omega arith) }
-rises es (line l) h = record { above = grind arith; first = λ z. absurd (omega arith) }
-rises es (energy_offer o) h = record { above = grind arith; first = λ z. absurd (omega arith) }
-rises es (bid b) h = record { above = grind arith; first = λ z. absurd (omega arith) }
-rises es (regulation_offer r) h = record { above = grind arith; first = λ z. absurd (omega arith) }
-rises es (requirement q) h = record { above = grind arith; first = λ z. absurd (omega arith) }
+-- no kind has a tag above 15
+tag_most : (k : RecordKind) → tag_of k ≤ 15
+tag_most Period = lit≤ tt
+tag_most Node = lit≤ tt
+tag_most Line = lit≤ tt
+tag_most EnergyOffer = lit≤ tt
+tag_most Bid = lit≤ tt
+tag_most RegulationOffer = lit≤ tt
+tag_most Requirement = lit≤ tt
 
--- every kind has a tag from 1 to 15
-tag_some : (k : RecordKind) → (1 ≤ tag_of k) × (tag_of k ≤ 15)
-tag_some Period = (lit≤ tt, lit≤ tt)
-tag_some Node = (lit≤ tt, lit≤ tt)
-tag_some Line = (lit≤ tt, lit≤ tt)
-tag_some EnergyOffer = (lit≤ tt, lit≤ tt)
-tag_some Bid = (lit≤ tt, lit≤ tt)
-tag_some RegulationOffer = (lit≤ tt, lit≤ tt)
-tag_some Requirement = (lit≤ tt, lit≤ tt)
+some_push : (n : ℕ) (b : Bool) → either b (ltb 0 n) ≡ ltb 0 (n + one b)
+some_push zero true = refl
+some_push (suc n) true = grind arith
+some_push n false = ap (ltb 0) (omega arith)
 
 one_added : (c : ℕ) (b : Bool) → false ≡ ltb 0 c → b ≡ ltb 0 (c + one b)
 one_added c true h = grind arith
 one_added c false h = h ∙ ap (ltb 0) (omega arith)
 
-begins_more : (es : Option Ends) (k : RecordKind) (c : ℕ) → Rises (last_tag es) (tag_of k) → begins es ≡ ltb 0 c → begins (extended es k) ≡ ltb 0 (c + one (eqb (tag_of k) 1))
-begins_more None k c r h = one_added c (eqb (tag_of k) 1) h
-begins_more (Some e) k c r h = go (eqb (tag_of k) 1) refl
-  where
-    go : (b : Bool) → eqb (tag_of k) 1 ≡ b → eqb (tag_of e.first) 1 ≡ ltb 0 (c + one b)
-    go true w = absurd (omega (arith, r.first (eqb-true (tag_of k) 1 w), (tag_some e.last).0))
-    go false w = h ∙ ap (ltb 0) (omega arith)
-
-ends_more : (es : Option Ends) (k : RecordKind) (c : ℕ) → Rises (last_tag es) (tag_of k) → ends es ≡ ltb 0 c → ends (extended es k) ≡ ltb 0 (c + one (eqb (tag_of k) 15))
-ends_more None k c r h = one_added c (eqb (tag_of k) 15) h
-ends_more (Some e) k c r h = go (eqb (tag_of k) 15) refl
+ends_more : (o : Option RecordKind) (k : RecordKind) (c : ℕ) → last_tag o ≤ tag_of k → ends o ≡ ltb 0 c → ends (Some k) ≡ ltb 0 (c + one (eqb (tag_of k) 15))
+ends_more None k c above h = one_added c (eqb (tag_of k) 15) h
+ends_more (Some l) k c above h = go (eqb (tag_of k) 15) refl
   where
     go : (b : Bool) → eqb (tag_of k) 15 ≡ b → b ≡ ltb 0 (c + one b)
     go true w = grind arith
     go false w =
-        let above = r.above in
-        let most = (tag_some k).1 in
-        let other : eqb (tag_of e.last) 15 ≡ false = grind arith in
+        let most = tag_most k in
+        let other : eqb (tag_of l) 15 ≡ false = grind arith in
         one_added c false (sym other ∙ h)
 
-last_extended : (ends : Option Ends) (k : RecordKind) → last_tag (extended ends k) ≡ tag_of k
-last_extended None k = refl
-last_extended (Some e) k = refl
-
 -- each part of the summary follows from the record's kind, and the marks from the offer that it regulates
-pub one_more : (s t : Summary) (es : List Entry) (d e : Entry) (k : RecordKind) → d ≡ e → SumsUp s es → follows es (tag d) ≡ true → tag_of k ≡ tag d → extended s.ends k ≡ t.ends → t.nodes ≡ s.nodes + one (eqb (tag e) 2) → vec_len t.regulated ≡ vec_len s.regulated + one (eqb (tag e) 4) → ((k : ℕ) → get_or (vec_items t.regulated) k false ≡ either (regulates k e) (get_or (vec_items s.regulated) k false)) → SumsUp t (es ++ d ∷ [])
-one_more s t es d e k is u order tagged ends_are nodes offers marks =
-    let up : Rises (last_tag s.ends) (tag_of k) = subst (λ n. Rises n (tag_of k)) (sym u.last) (subst (Rises (tag_of_last es)) (sym tagged) (rises es d order)) in
-    let last : last_tag (extended s.ends k) ≡ tag_of k = last_extended s.ends k in
+pub one_more : (s t : Summary) (es : List Entry) (d e : Entry) (k : RecordKind) → d ≡ e → SumsUp s es → follows es (tag d) ≡ true → tag_of k ≡ tag d → t.last ≡ Some k → t.has_period ≡ either (eqb (tag e) 1) s.has_period → t.nodes ≡ s.nodes + one (eqb (tag e) 2) → vec_len t.regulated ≡ vec_len s.regulated + one (eqb (tag e) 4) → ((k : ℕ) → get_or (vec_items t.regulated) k false ≡ either (regulates k e) (get_or (vec_items s.regulated) k false)) → SumsUp t (es ++ d ∷ [])
+one_more s t es d e k is u order tagged last begun nodes offers marks =
+    let above : last_tag s.last ≤ tag_of k = omega (arith, u.last, tagged, rises es d order) in
     record {
-      last = ap last_tag (sym ends_are) ∙ last ∙ tagged ∙ sym (last_push es d);
-      period = ap begins (sym ends_are) ∙ begins_more s.ends k (count 1 es) up u.period ∙ (λ i. ltb 0 (count 1 es + one (eqb (tagged i) 1))) ∙ ap (ltb 0) (sym (count_push 1 es d));
-      requirement = ap ends (sym ends_are) ∙ ends_more s.ends k (count 15 es) up u.requirement ∙ (λ i. ltb 0 (count 15 es + one (eqb (tagged i) 15))) ∙ ap (ltb 0) (sym (count_push 15 es d));
+      last = ap last_tag last ∙ tagged ∙ sym (last_push es d);
+      period = begun ∙ (λ i. either (eqb (tag (sym is i)) 1) (u.period i)) ∙ some_push (count 1 es) (eqb (tag d) 1) ∙ ap (ltb 0) (sym (count_push 1 es d));
+      requirement = ap ends last ∙ ends_more s.last k (count 15 es) above u.requirement ∙ (λ i. ltb 0 (count 15 es + one (eqb (tagged i) 15))) ∙ ap (ltb 0) (sym (count_push 15 es d));
       nodes = nodes ∙ (λ i. u.nodes i + one (eqb (tag (sym is i)) 2)) ∙ sym (count_push 2 es d);
       offers = offers ∙ (λ i. u.offers i + one (eqb (tag (sym is i)) 4)) ∙ sym (count_push 4 es d);
       marks = λ k. marks k ∙ (λ i. either (regulates k (sym is i)) (u.marks k i)) ∙ sym (regulated_push k es d);
     }
 
--- a record of another kind changes neither nodes nor offers
+-- a record of another kind changes neither period nor nodes nor offers
 pub record Plain (e : Entry) : Type 0 where
+  pub no_period : eqb (tag e) 1 ≡ false
   pub no_node : eqb (tag e) 2 ≡ false
   pub no_offer : eqb (tag e) 4 ≡ false
   pub regulates_none : (k : ℕ) → regulates k e ≡ false
 
-pub plain : (r : CaseRecord) → ((x : declared_period.Period) × (r ≡ variant.Period x)) ⊎ (((x : declared_line.Line) × (r ≡ variant.Line x)) ⊎ (((x : declared_bid.Bid) × (r ≡ variant.Bid x)) ⊎ ((x : declared_requirement.Requirement) × (r ≡ variant.Requirement x)))) → Plain (meant r)
-plain r (inl (x, is)) = subst Plain (sym (ap meant is)) (record { no_node = refl; no_offer = refl; regulates_none = λ k. refl })
-plain r (inr (inl (x, is))) = subst Plain (sym (ap meant is)) (record { no_node = refl; no_offer = refl; regulates_none = λ k. refl })
-plain r (inr (inr (inl (x, is)))) = subst Plain (sym (ap meant is)) (record { no_node = refl; no_offer = refl; regulates_none = λ k. refl })
-plain r (inr (inr (inr (x, is)))) = subst Plain (sym (ap meant is)) (record { no_node = refl; no_offer = refl; regulates_none = λ k. refl })
+pub plain : (r : CaseRecord) → ((x : declared_line.Line) × (r ≡ variant.Line x)) ⊎ (((x : declared_bid.Bid) × (r ≡ variant.Bid x)) ⊎ ((x : declared_requirement.Requirement) × (r ≡ variant.Requirement x))) → Plain (meant r)
+plain r (inl (x, is)) = subst Plain (sym (ap meant is)) (record { no_period = refl; no_node = refl; no_offer = refl; regulates_none = λ k. refl })
+plain r (inr (inl (x, is))) = subst Plain (sym (ap meant is)) (record { no_period = refl; no_node = refl; no_offer = refl; regulates_none = λ k. refl })
+plain r (inr (inr (x, is))) = subst Plain (sym (ap meant is)) (record { no_period = refl; no_node = refl; no_offer = refl; regulates_none = λ k. refl })
 
 -- a mark that is not set, at the end
 pub unset_push : (bs : List Bool) (k : ℕ) → get_or (bs ++ false ∷ []) k false ≡ get_or bs k false

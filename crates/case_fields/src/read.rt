@@ -43,19 +43,6 @@ fn next_record<'a>(
     Ok(record)
 }
 
-/// The record of a field, or the fault with the place of the field.
-fn record_at<'a>(
-    before: &Summary,
-    offset: usize,
-    field: Result<head::Field<'a>, FaultKind>,
-) -> Result<CaseRecord<'a>, FieldFault>
-    ensures { (es : List Entry) (bs rest : List ℕ) → SumsUp before.now es → IsCut bs field.entry rest → MatchResult result
-        (λ r. Next es bs (meant r) rest)
-        (λ e. (e.offset ≡ offset) × First (checks case_format es bs) e.kind) }
-{
-    next_record(before, field).map_err(|kind| FieldFault { kind, offset })
-}
-
 /// The records of the input, one field after the other.
 fn read_records<'a>(heap: Global, input: &'a [u8]) -> Result<Vec<CaseRecord<'a>>, ReadError>
     ensures { MatchResult result (λ v. IsFile case_format input.now (map meant v.items)) (Told case_format input.now) }
@@ -63,7 +50,10 @@ fn read_records<'a>(heap: Global, input: &'a [u8]) -> Result<Vec<CaseRecord<'a>>
     let mut records = Vec::new(heap);
     let mut before = Summary::new(heap);
     for (offset, field) in Fields::of(input) {
-        let record = record_at(&before, offset, field)?;
+        let record = match next_record(&before, field) {
+            Ok(record) => record,
+            Err(kind) => return Err(ReadError::Field(FieldFault { kind, offset })),
+        };
         before.note(record)?;
         records.push(record)?;
     }

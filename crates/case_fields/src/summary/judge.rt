@@ -8,7 +8,7 @@ ghost use Rattle.case_fields.specs.Tests.{in_turn, refers, complete};
 
 use crate::kind::RecordKind;
 use crate::record::CaseRecord;
-use crate::summary::{Ends, Summary};
+use crate::summary::Summary;
 use std::alloc::Global;
 
 impl Summary {
@@ -17,7 +17,8 @@ impl Summary {
         ensures { SumsUp result [] }
     {
         Summary {
-            ends: None,
+            last: None,
+            has_period: false,
             nodes: 0,
             regulated: Vec::new(heap),
         }
@@ -25,9 +26,15 @@ impl Summary {
 
     /// Whether a field of this kind may follow.
     pub fn lets_follow(&self, kind: RecordKind) -> bool
-        ensures { result ≡ in_turn (last_tag self.now.ends) kind (tag_of kind) }
+        ensures { result ≡ in_turn (last_tag self.now.last) kind (tag_of kind) }
     {
-        self.ends.is_none_or(|ends| ends.last < kind || (ends.last == kind && !kind.once()))
+        self.last.is_none_or(|last| {
+            if last == kind {
+                !kind.once()
+            } else {
+                last < kind
+            }
+        })
     }
 
     /// Whether a node has this number.
@@ -63,10 +70,6 @@ impl Summary {
     pub fn is_complete(&self) -> bool
         ensures { (es : List Entry) → SumsUp self.now es → result ≡ complete es }
     {
-        let whole = Ends {
-            first: RecordKind::Period,
-            last: RecordKind::Requirement,
-        };
-        self.ends == Some(whole) && self.nodes > 0
+        self.last == Some(RecordKind::Requirement) && self.has_period && self.nodes > 0
     }
 }

@@ -1,14 +1,13 @@
 //! One record more in a summary.
-ghost use Rattle.std.specs.Prelude.{◌≡◌, ◌+◌, ◌<◌, ◌≤◌, true, List, [], ◌∷◌, ◌++◌, vec_len, Some, OnOk, slice_set};
+ghost use Rattle.std.specs.Prelude.{◌≡◌, ◌+◌, ◌<◌, ◌≤◌, true, List, [], ◌∷◌, ◌++◌, vec_len, OnOk, slice_set};
 ghost use Rattle.case_fields.specs.Entries.{Entry};
 ghost use Rattle.case_fields.specs.Encoding.{tag};
 ghost use Rattle.case_fields.specs.Meant.{meant};
-ghost use Rattle.case_fields.specs.Summaries.{SumsUp, extended};
+ghost use Rattle.case_fields.specs.Summaries.{SumsUp};
 ghost use Rattle.case_fields.specs.Tests.{follows, refers};
 
-use crate::kind::RecordKind;
 use crate::record::CaseRecord;
-use crate::summary::{Ends, Summary};
+use crate::summary::Summary;
 use std::alloc::AllocError;
 
 /// Marks the place, if there is one.
@@ -21,18 +20,6 @@ fn mark(marks: &mut Vec<bool>, place: usize)
     }
 }
 
-impl Ends {
-    /// The ends with one record more of this kind.
-    fn with(ends: Option<Ends>, kind: RecordKind) -> Ends
-        ensures { extended ends kind ≡ Some result }
-    {
-        Ends {
-            first: ends.map_or(kind, |ends| ends.first),
-            last: kind,
-        }
-    }
-}
-
 impl Summary {
     /// Takes in one record more, which may follow and refers to what is there.
     pub(crate) fn note(&mut self, record: CaseRecord<'_>) -> Result<(), AllocError>
@@ -40,18 +27,15 @@ impl Summary {
         ensures sums { (es : List Entry) → SumsUp self.old es → follows es (tag (meant «record».entry)) ≡ true → refers es (meant «record».entry) ≡ true → OnOk result (SumsUp self.new (es ++ meant «record».entry ∷ [])) }
         ensures grows { self.new.nodes ≤ self.old.nodes + 1 }
     {
-        let kind = record.kind();
-        self.ends = Some(Ends::with(self.ends, kind));
+        self.last = Some(record.kind());
         match record {
+            CaseRecord::Period(_) => self.has_period = true,
             CaseRecord::Node(_) => self.nodes += 1,
             CaseRecord::EnergyOffer(_) => self.regulated.push(false)?,
             CaseRecord::RegulationOffer(regulation) => {
                 mark(&mut self.regulated, regulation.offer as usize)
             }
-            CaseRecord::Period(_)
-            | CaseRecord::Line(_)
-            | CaseRecord::Bid(_)
-            | CaseRecord::Requirement(_) => {}
+            CaseRecord::Line(_) | CaseRecord::Bid(_) | CaseRecord::Requirement(_) => {}
         }
         Ok(())
     }
