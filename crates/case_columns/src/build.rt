@@ -149,11 +149,7 @@ impl Position {
     }
 
     /// Adds the columns of a record.
-    pub(crate) fn add_to(
-        self,
-        columns: &mut Vec<Named>,
-        given: CaseRecord<'_>,
-    ) -> Result<(), AllocError>
+    fn add_to(self, columns: &mut Vec<Named>, given: CaseRecord<'_>) -> Result<(), AllocError>
         ensures { OnOk result (columns.new.items ≡ columns.old.items ++ columns_of self.kinds self.place (meant given.entry)) }
     {
         match given {
@@ -173,9 +169,11 @@ pub fn table_of(heap: Global, records: &[CaseRecord<'_>]) -> Result<Table, Alloc
     ensures { IfOk result (λ t. columns_in t ≡ all_columns (map meant records.now)) }
 {
     let kinds = kinds_of(records);
-    let mut table = Table::new(heap);
+    let mut named = Vec::new(heap);
+    let mut starts = Vec::new(heap);
     for (place, given) in records.iter().enumerate() {
-        table = table.add_record(Position { kinds, place }, *given)?;
+        starts.push(named.len())?;
+        Position { kinds, place }.add_to(&mut named, *given)?;
     }
-    Ok(table)
+    Ok(Table::of(named, starts))
 }

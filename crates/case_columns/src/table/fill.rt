@@ -1,13 +1,11 @@
 //! Building a table, record by record.
-ghost use Rattle.std.specs.Prelude.{◌≡◌, [], IfOk};
-ghost use Rattle.case_fields.specs.Meant.{meant};
-ghost use Rattle.case_columns.specs.Columns.{columns_of};
-ghost use Rattle.case_columns.specs.Tables.{columns_in, begun, Adds};
+ghost use Rattle.std.specs.Prelude.{◌≡◌, []};
+ghost use Rattle.case_columns.specs.Placed.{Low, Placed};
+ghost use Rattle.case_columns.specs.Tables.{columns_in, begun};
 
-use crate::position::Position;
+use crate::name::Named;
 use crate::table::Table;
-use case_fields::record::CaseRecord;
-use std::alloc::{AllocError, Global};
+use std::alloc::Global;
 
 impl Table {
     /// A table with no columns.
@@ -21,19 +19,12 @@ impl Table {
         }
     }
 
-    /// The table with the columns of the next record added.
-    pub(crate) fn add_record(
-        self,
-        position: Position,
-        given: CaseRecord<'_>,
-    ) -> Result<Table, AllocError>
-        requires { position.place ≡ begun self }
-        ensures { IfOk result (λ t. Adds self t (columns_of position.kinds position.place (meant given.entry))) }
+    /// The table of columns, with the number of each record's first.
+    pub(crate) fn of(named: Vec<Named>, starts: Vec<usize>) -> Table
+        requires low { Low named.items starts.items }
+        requires placed { Placed named.items starts.items }
+        ensures { columns_in result ≡ named.items }
     {
-        let mut named = self.named;
-        let mut starts = self.starts;
-        starts.push(named.len())?;
-        position.add_to(&mut named, given)?;
-        Ok(Table { named, starts })
+        Table { named, starts }
     }
 }
